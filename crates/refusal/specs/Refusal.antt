@@ -1,0 +1,34 @@
+-- An answer, or the paper's number of a refusal. Tests stand in the paper's order, so the lowest number wins.
+use Prim.Native.Nat.{ℕ}
+use mathlib.Core.Bool.{Bool, true, false}
+use mathlib.Core.Path.{_≡_, refl}
+
+pub data Or (A : Type 0) : Type 0 where
+  refused : ℕ → Or A
+  ok : A → Or A
+
+-- go on where the test holds; else the number
+unfoldable pub need : {A : Type 0} → ℕ → Bool → Or A → Or A
+need n true x = x
+need n false x = refused n
+
+-- go on with the answer; a refusal stays
+abbrev pub andThen : {A B : Type 0} → Or A → (A → Or B) → Or B
+andThen (refused n) f = refused n
+andThen (ok a) f = f a
+
+abbrev pub pick : {A : Type 0} → Bool → A → A → A
+pick true a b = a
+pick false a b = b
+
+-- what was answered passed its test
+pub need-passed : {A : Type 0} (n : ℕ) (t : Bool) (x : Or A) (a : A) → need n t x ≡ ok a → t ≡ true
+unfolding need
+need-passed n true x a e = refl
+need-passed n false x a e = cc
+
+-- and is the answer of the tests after it
+pub need-rest : {A : Type 0} (n : ℕ) (t : Bool) (x : Or A) (a : A) → need n t x ≡ ok a → x ≡ ok a
+unfolding need
+need-rest n true x a e = e
+need-rest n false x a e = cc
