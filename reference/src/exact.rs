@@ -1,0 +1,162 @@
+//! The exact working, and demand 3 of a working's result.
+
+use crate::arrivals::{landing, PairShare};
+use crate::discharge::{fill_discharge, UNITS};
+use crate::dispersion::{arrival_time, denominator, Street, CYCLES, NUMERATOR};
+use crate::greens::Step;
+use crate::metering::discharge_volumes;
+use crate::natural::Natural;
+use crate::record::{Record, ACCESS, RIGHT};
+use crate::working::Working;
+
+/// An exit's flow differs from the exact one by less than this.
+pub const EXIT_DISTANCE: u64 = 6;
+
+/// A worked record with its profiles after the call, cut or not.
+pub struct Worked<'a> {
+    pub record: &'a Record,
+    pub working: &'a Working,
+    pub output: &'a [u32],
+    pub first: &'a [u32],
+    pub second: &'a [u32],
+}
+
+/// A signalised entry: its discharge, and its arrivals over all cycles worked.
+struct Platoon {
+    whole: u64,
+    leaving: Vec<u32>,
+    arrivals: Vec<u32>,
+}
+
+/// Demand 3, its three parts together; the text names the part that fails.
+pub fn check_demand_3(worked: &Worked) -> Result<(), String> {
+    let platoons = platoons(worked.record);
+    check_work_profiles(worked, &platoons[RIGHT])?;
+    check_exit_flows(worked, &platoons)?;
+    for (i, platoon) in platoons.iter().enumerate() {
+        check_entry(worked.record, platoon).map_err(|text| format!("entry {i}: {text}"))?;
+    }
+    check_pairs(worked, &platoons)
+}
+
+fn platoons(record: &Record) -> Vec<Platoon> {
+    let volumes = discharge_volumes(record);
+    let platoon = |i: usize| {
+        let mut leaving = vec![0; record.cycle as usize];
+        fill_discharge(&record.entries[i], &mut leaving);
+        let mut street = Street::empty(record.running_time);
+        let all = leaving.iter().cycle().take(CYCLES * leaving.len());
+        let arrivals = all.map(|&q| street.step(q)).collect();
+        Platoon { whole: u64::from(UNITS) * u64::from(volumes[i]), leaving, arrivals }
+    };
+    (0..3).map(platoon).collect()
+}
+
+/// The work profiles hold the right entry's cycles one and two.
+fn check_work_profiles(worked: &Worked, right: &Platoon) -> Result<(), String> {
+    let cycle = worked.record.cycle as usize;
+    let held = [&worked.first[..cycle], &worked.second[..cycle]].concat();
+    if held != right.arrivals {
+        return Err("work profiles do not hold the right entry's cycles".into());
+    }
+    Ok(())
+}
+
+/// Xk of one entry: X0 = 0, Xk = N·q·D^(k-1) + (D-N)·X(k-1).
+fn exact_step(x: &Natural, leaving: u32, power: &Natural, divisor: u64) -> Natural {
+    let new = power.times(NUMERATOR).times(u64::from(leaving));
+    new.plus(&x.times(divisor - NUMERATOR))
+}
+
+/// Part 1: each exit's flow in each step is within six of the exact one.
+fn check_exit_flows(worked: &Worked, platoons: &[Platoon]) -> Result<(), String> {
+    let cycle = worked.record.cycle;
+    let divisor = denominator(worked.record.running_time);
+    let shift = arrival_time(worked.record.running_time);
+    let mut exact = vec![Natural::zero(); platoons.len()];
+    let mut power = Natural::one();
+    for k in 1..=CYCLES as u32 * cycle {
+        let step = Step((k - 1) % cycle + 1);
+        for (x, platoon) in exact.iter_mut().zip(platoons) {
+            *x = exact_step(x, platoon.leaving[step.index()], &power, divisor);
+        }
+        power = power.times(divisor);
+        if k > (CYCLES as u32 - 1) * cycle {
+            check_step(worked, platoons, &exact, &power, landing(step, shift, cycle))?;
+        }
+    }
+    Ok(())
+}
+
+/// Part 1 at one step: `exact` holds the Xk and `power` D^k.
+fn check_step(
+    worked: &Worked,
+    platoons: &[Platoon],
+    exact: &[Natural],
+    power: &Natural,
+    landed: Step,
+) -> Result<(), String> {
+    let busy: Vec<usize> = (0..platoons.len()).filter(|&i| platoons[i].whole > 0).collect();
+    let over = |skip: usize, start: Natural| {
+        let others = busy.iter().filter(|&&i| i != skip);
+        others.fold(start, |product, &i| product.times(platoons[i].whole))
+    };
+    let common = over(ACCESS, power.clone());
+    for j in 0..4 {
+        let share = |i: usize| u64::from(worked.working.flows[i][j]);
+        let access = common.times(share(ACCESS));
+        let flow = busy.iter().fold(access, |sum, &i| sum.plus(&over(i, exact[i].times(share(i)))));
+        let run = &worked.output[j * worked.record.cycle as usize..];
+        let found = u64::from(run[landed.index()]);
+        let low = common.times(found);
+        let high = common.times(found + EXIT_DISTANCE);
+        if flow >= high || flow.plus(&common.times(EXIT_DISTANCE)) <= low {
+            return Err(format!("exit {j} is six or more off in step {}", landed.0));
+        }
+    }
+    Ok(())
+}
+
+fn add_up(numbers: &[u32]) -> u64 {
+    numbers.iter().map(|&number| u64::from(number)).sum()
+}
+
+/// Part 2: N·(discharged - arrived) - (D-N)·last is from 0 to D-1.
+fn check_entry(record: &Record, platoon: &Platoon) -> Result<(), String> {
+    let divisor = denominator(record.running_time);
+    let discharged = CYCLES as u64 * add_up(&platoon.leaving);
+    let arrived = add_up(&platoon.arrivals);
+    let last = platoon.arrivals.last().map_or(0, |&last| u64::from(last));
+    let on_street = i128::from(discharged) - i128::from(arrived);
+    let kept = i128::from(divisor - NUMERATOR) * i128::from(last);
+    let rest = i128::from(NUMERATOR) * on_street - kept;
+    if !(0..i128::from(divisor)).contains(&rest) {
+        return Err(format!("discharged less arrived leaves {rest}"));
+    }
+    Ok(())
+}
+
+/// Part 3: a pair's arrivals are its share of the entry's, short by less than one.
+/// The exits' totals must be these pairs' arrivals and access added.
+fn check_pairs(worked: &Worked, platoons: &[Platoon]) -> Result<(), String> {
+    let cycle = worked.record.cycle as usize;
+    for j in 0..4 {
+        let run = &worked.output[j * cycle..(j + 1) * cycle];
+        let mut total = cycle as u64 * u64::from(worked.working.flows[ACCESS][j]);
+        for (i, platoon) in platoons.iter().enumerate().filter(|(_, p)| p.whole > 0) {
+            let reported = &platoon.arrivals[platoon.arrivals.len() - cycle..];
+            let flow = worked.working.flows[i][j];
+            let mut share = PairShare::new(flow, (platoon.whole / u64::from(UNITS)) as u32);
+            let pair: u64 = reported.iter().map(|&a| u64::from(share.take(a))).sum();
+            let due = u64::from(flow) * add_up(reported);
+            if pair * platoon.whole > due || due - pair * platoon.whole >= platoon.whole {
+                return Err(format!("pair {i} {j} is off its share"));
+            }
+            total += pair;
+        }
+        if add_up(run) != total {
+            return Err(format!("exit {j} does not hold its pairs"));
+        }
+    }
+    Ok(())
+}

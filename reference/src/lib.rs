@@ -1,0 +1,18 @@
+//! Reference implementation of paper 01, written from the paper alone.
+
+pub mod archive;
+pub mod arrivals;
+pub mod balance;
+pub mod discharge;
+pub mod dispersion;
+pub mod exact;
+pub mod greens;
+pub mod metering;
+pub mod natural;
+pub mod random;
+pub mod record;
+pub mod refusal;
+pub mod report;
+pub mod samples;
+pub mod vectors;
+pub mod working;

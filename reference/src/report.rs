@@ -1,0 +1,54 @@
+//! The text that the product program prints.
+
+use std::io::Write;
+
+use crate::archive::read;
+use crate::record::{CYCLE_AT, CYCLE_MOST, read_u16};
+use crate::refusal::{self, Refusal};
+use crate::working::{work, Working};
+
+/// Input longer than this is refused whatever it holds.
+pub const INPUT_MOST: usize = 65536;
+
+const STEPS: usize = CYCLE_MOST as usize;
+
+/// Appends the report of an archive to `text`.
+pub fn report(input: &[u8], text: &mut Vec<u8>) {
+    if input.len() > INPUT_MOST {
+        return refuse(text, refusal::ARCHIVE_TRAILER);
+    }
+    let archive = match read(input) {
+        Ok(archive) => archive,
+        Err(number) => return refuse(text, number),
+    };
+    let mut output = [0; 4 * STEPS];
+    let mut first = [0; STEPS];
+    let mut second = [0; STEPS];
+    for place in archive.records() {
+        let number = archive.number_at(place);
+        let record = archive.record_at(place);
+        match work(record, &mut output, &mut first, &mut second) {
+            Ok(working) => write_working(text, number, read_u16(record, CYCLE_AT), &working),
+            Err(refused) => print(text, format_args!("card {number} refused {}\n", refused.number)),
+        }
+    }
+}
+
+/// Writing to a vector does not fail.
+fn print(text: &mut Vec<u8>, line: std::fmt::Arguments) {
+    text.write_fmt(line).expect("a vector takes all bytes");
+}
+
+fn refuse(text: &mut Vec<u8>, number: Refusal) {
+    print(text, format_args!("drawer refused {number}\n"));
+}
+
+fn write_working(text: &mut Vec<u8>, number: u32, cycle: u32, working: &Working) {
+    let Working { shift, rounds, access_total, blocked, .. } = working;
+    print(text, format_args!("card {number} cycle {cycle} shift {shift} rounds {rounds}\n"));
+    for (name, exit) in ['l', 't', 'r'].iter().zip(&working.exits) {
+        let (total, green, permille) = (exit.total, exit.green, exit.permille);
+        print(text, format_args!("exit {name} total {total} green {green} permille {permille}\n"));
+    }
+    print(text, format_args!("exit a total {access_total}\nblocked {blocked} of {cycle}\n"));
+}

@@ -1,0 +1,2 @@
+use super::File;
+pub fn file() -> File { File::default() }

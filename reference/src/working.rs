@@ -1,0 +1,114 @@
+//! The working of a segment record.
+
+use crate::arrivals::{add_pair, blocked_steps, exit_figures, total, ExitFigures};
+use crate::balance::{balance, check_volumes, pair_flows, Outcome, PairFlows, ROUND_LIMIT};
+use crate::discharge::fill_discharge;
+use crate::dispersion::{arrival_time, disperse};
+use crate::metering::discharge_volumes;
+use crate::record::{decode, Record, ACCESS, CYCLE_MOST, LEFT, RIGHT, THROUGH};
+use crate::refusal::{self, Refusal};
+
+/// What an accepted working returns.
+#[derive(Clone, Copy, Debug, PartialEq)]
+pub struct Working {
+    /// Platoon arrival time (paper: t').
+    pub shift: u32,
+    pub rounds: u32,
+    pub last_sum: f64,
+    pub flows: PairFlows,
+    pub exits: [ExitFigures; 3],
+    pub access_total: u64,
+    pub blocked: u32,
+}
+
+/// A refusal by number; 15 comes with the last sum, the others with 0.
+#[derive(Clone, Copy, Debug, PartialEq)]
+pub struct Refused {
+    pub number: Refusal,
+    pub last_sum: f64,
+}
+
+impl From<Refusal> for Refused {
+    fn from(number: Refusal) -> Refused {
+        Refused { number, last_sum: 0.0 }
+    }
+}
+
+/// Everything decided before a profile is written.
+struct Decision {
+    volumes: [u32; 4],
+    rounds: u32,
+    last_sum: f64,
+    flows: PairFlows,
+}
+
+fn decide(record: &Record) -> Result<Decision, Refused> {
+    let volumes = discharge_volumes(record);
+    check_volumes(&volumes, &record.exits, &record.seeds)?;
+    let balanced = balance(&volumes, &record.exits, &record.seeds, ROUND_LIMIT);
+    match balanced.outcome {
+        Outcome::Unsettled(last_sum) => Err(Refused { number: refusal::UNSETTLED, last_sum }),
+        Outcome::Settled(last_sum) => Ok(Decision {
+            volumes,
+            rounds: balanced.rounds,
+            last_sum,
+            flows: pair_flows(&volumes, &balanced.cells),
+        }),
+    }
+}
+
+/// Fills the runs of the output, exits in order; all three profiles cut to size.
+fn fill(
+    record: &Record,
+    decision: &Decision,
+    output: &mut [u32],
+    first: &mut [u32],
+    second: &mut [u32],
+) {
+    let cycle = record.cycle as usize;
+    let shift = arrival_time(record.running_time);
+    for (run, access) in output.chunks_exact_mut(cycle).zip(decision.flows[ACCESS]) {
+        run.fill(access);
+    }
+    let mut leaving = [0; CYCLE_MOST as usize];
+    let leaving = &mut leaving[..cycle];
+    for (i, entry) in record.entries.iter().enumerate() {
+        fill_discharge(entry, leaving);
+        let arrivals = disperse(leaving, record.running_time, first, second);
+        for (run, flow) in output.chunks_exact_mut(cycle).zip(decision.flows[i]) {
+            add_pair(arrivals, flow, decision.volumes[i], shift, run);
+        }
+    }
+}
+
+/// Works a record; a refusal writes nothing.
+pub fn work(
+    bytes: &[u8],
+    output: &mut [u32],
+    first: &mut [u32],
+    second: &mut [u32],
+) -> Result<Working, Refused> {
+    let record = decode(bytes)?;
+    let cycle = record.cycle as usize;
+    if output.len() < 4 * cycle || first.len() < cycle || second.len() < cycle {
+        return Err(refusal::PROFILE.into());
+    }
+    let decision = decide(&record)?;
+    let output = &mut output[..4 * cycle];
+    fill(&record, &decision, output, &mut first[..cycle], &mut second[..cycle]);
+    Ok(figures(&record, &decision, output))
+}
+
+fn figures(record: &Record, decision: &Decision, output: &[u32]) -> Working {
+    let cycle = record.cycle as usize;
+    let run = |j: usize| &output[j * cycle..(j + 1) * cycle];
+    Working {
+        shift: arrival_time(record.running_time),
+        rounds: decision.rounds,
+        last_sum: decision.last_sum,
+        flows: decision.flows,
+        exits: [LEFT, THROUGH, RIGHT].map(|j| exit_figures(run(j), record.downstream[j])),
+        access_total: total(run(ACCESS)),
+        blocked: blocked_steps(run(THROUGH), record.headway),
+    }
+}
