@@ -1,0 +1,70 @@
+//! Searches for the rare balances kept in `src/vectors/balance_cases.rs` and prints them.
+
+use reference::balance::{balance, check_volumes, Outcome, Stop, ROUND_LIMIT};
+use reference::random::Random;
+use reference::record::{Seeds, DEFAULT_SEEDS};
+use reference::samples::random_row;
+use std::collections::BTreeMap;
+
+const TRIES: u32 = 6_000_000;
+const KEPT: usize = 3;
+const ROUNDS: [u32; 6] = [39, 40, 41, ROUND_LIMIT - 1, ROUND_LIMIT, ROUND_LIMIT + 1];
+
+fn volume(random: &mut Random, most: u32) -> u32 {
+    let most = random.pick(&[1, 3, 10, 100, 1000, most]);
+    if random.one_in(4) {
+        0
+    } else {
+        random.between(1, most)
+    }
+}
+
+/// Random rows, rows of two seeds, or the default.
+fn seeds(random: &mut Random) -> Seeds {
+    let two = |r: &mut Random| {
+        let mut row = [0; 4];
+        let part = r.pick(&[0, 1, 2, 50]);
+        row[r.below(4) as usize] += part;
+        row[r.below(4) as usize] += 100 - part;
+        row
+    };
+    match random.below(5) {
+        0 => DEFAULT_SEEDS,
+        1 | 2 => [(); 4].map(|_| two(random)),
+        _ => [(); 4].map(|_| random_row(random)),
+    }
+}
+
+/// The label of a balance that is kept.
+fn label(outcome: Outcome, rounds: u32, stop: Option<Stop>) -> Option<String> {
+    match (outcome, stop) {
+        (Outcome::Settled(_), _) if ROUNDS.contains(&rounds) => Some(format!("{rounds}")),
+        (Outcome::Unsettled(_), Some(stop)) if rounds + 1 >= ROUND_LIMIT => {
+            Some(format!("in round {}: {stop:?}", rounds + 1))
+        }
+        (Outcome::Unsettled(_), Some(stop)) => Some(format!("{stop:?}")),
+        _ => None,
+    }
+}
+
+fn main() {
+    let mut random = Random::new(201);
+    let mut found: BTreeMap<String, Vec<String>> = BTreeMap::new();
+    for _ in 0..TRIES {
+        let discharge = [(); 4].map(|_| volume(&mut random, 6000));
+        let exits = [(); 4].map(|_| volume(&mut random, 12000));
+        let seeds = seeds(&mut random);
+        if check_volumes(&discharge, &exits, &seeds).is_err() {
+            continue;
+        }
+        let result = balance(&discharge, &exits, &seeds, ROUND_LIMIT + 1);
+        let Some(label) = label(result.outcome, result.rounds, result.stop) else { continue };
+        let kept = found.entry(label).or_default();
+        if kept.len() < KEPT {
+            kept.push(format!("({discharge:?}, {exits:?}, {seeds:?})"));
+        }
+    }
+    for (label, kept) in found {
+        kept.iter().for_each(|inputs| println!("({label}, {inputs}),"));
+    }
+}
