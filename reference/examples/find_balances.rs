@@ -7,7 +7,7 @@ use reference::samples::random_row;
 use std::collections::BTreeMap;
 
 const TRIES: u32 = 6_000_000;
-const KEPT: usize = 3;
+const KEPT: usize = 2;
 const ROUNDS: [u32; 6] = [39, 40, 41, ROUND_LIMIT - 1, ROUND_LIMIT, ROUND_LIMIT + 1];
 
 fn volume(random: &mut Random, most: u32) -> u32 {
@@ -35,19 +35,35 @@ fn seeds(random: &mut Random) -> Seeds {
     }
 }
 
-/// The label of a balance that is kept.
-fn label(outcome: Outcome, rounds: u32, stop: Option<Stop>) -> Option<String> {
+/// The class of a balance that is kept, and what its line starts with.
+fn class(outcome: Outcome, rounds: u32, stop: Option<Stop>) -> Option<(String, String)> {
     match (outcome, stop) {
-        (Outcome::Settled(_), _) if ROUNDS.contains(&rounds) => Some(format!("{rounds}")),
-        (Outcome::Unsettled(_), Some(stop)) if rounds + 1 >= ROUND_LIMIT => {
-            Some(format!("in round {}: {stop:?}", rounds + 1))
+        (Outcome::Settled(_), _) if ROUNDS.contains(&rounds) => {
+            Some((format!("{rounds:03}"), format!("{rounds}")))
         }
-        (Outcome::Unsettled(_), Some(stop)) => Some(format!("{stop:?}")),
+        (Outcome::Unsettled(_), Some(stop)) => {
+            let late = if rounds + 1 < ROUND_LIMIT { 0 } else { rounds };
+            Some((format!("{stop:?} {late}"), format!("Stop::{stop:?}, {rounds}")))
+        }
         _ => None,
     }
 }
 
+/// Adjusted volumes past the largest float at the right exit, which has no volume.
+fn idle_exit(random: &mut Random) -> Option<String> {
+    let discharge = [(); 4].map(|_| random.between(1, 100));
+    let exits = [0, random.between(1, 20), 0, random.between(1, 2000)];
+    let heavy = [0, 1, 99, 0];
+    let seeds = [heavy, heavy, heavy, [0, 0, 0, 100]];
+    let result = balance(&discharge, &exits, &seeds, ROUND_LIMIT);
+    let line = format!("    (Stop::ExitVolume, {}, ({discharge:?}, {exits:?}, {seeds:?})),", result.rounds);
+    (result.stop == Some(Stop::ExitVolume)).then_some(line)
+}
+
 fn main() {
+    let mut random = Random::new(99);
+    let idle = (0..TRIES).filter_map(|_| idle_exit(&mut random)).take(KEPT);
+    idle.for_each(|line| println!("{line}"));
     let mut random = Random::new(201);
     let mut found: BTreeMap<String, Vec<String>> = BTreeMap::new();
     for _ in 0..TRIES {
@@ -58,13 +74,13 @@ fn main() {
             continue;
         }
         let result = balance(&discharge, &exits, &seeds, ROUND_LIMIT + 1);
-        let Some(label) = label(result.outcome, result.rounds, result.stop) else { continue };
-        let kept = found.entry(label).or_default();
+        let Some((class, start)) = class(result.outcome, result.rounds, result.stop) else {
+            continue;
+        };
+        let kept = found.entry(class).or_default();
         if kept.len() < KEPT {
-            kept.push(format!("({discharge:?}, {exits:?}, {seeds:?})"));
+            kept.push(format!("    ({start}, ({discharge:?}, {exits:?}, {seeds:?})),"));
         }
     }
-    for (label, kept) in found {
-        kept.iter().for_each(|inputs| println!("({label}, {inputs}),"));
-    }
+    found.values().flatten().for_each(|line| println!("{line}"));
 }

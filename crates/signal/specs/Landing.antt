@@ -115,6 +115,20 @@ landing-is c t s ps h r l =
     one c t s (earlier c t s) (earlier-pos c t s) (earlier-le c t s (omega arith)) (earlier-lands c t s h r) 1 ps (omega arith)
     (earlier-pos c t s) (omega arith)
 
+-- places where numbers from the ith on will land, as they were
+pub record Untouched (c t i : ℕ) (run₀ run : List ℕ) : Type 0 where
+  pub same : (m : ℕ) → i ≤ m → m ≤ c → getD run (turn c (m + t) - 1) 0 ≡ getD run₀ (turn c (m + t) - 1) 0
+
+pub untouched-on : (c t i v : ℕ) (run₀ run : List ℕ) → 0 < i → i ≤ c → Untouched c t i run₀ run →
+    Untouched c t (i + 1) run₀ (set run (turn c (i + t) - 1) v)
+untouched-on c t i v run₀ run pos within u =
+    record {
+      same = λ m h r.
+          let ne : turn c (m + t) - 1 ≡ turn c (i + t) - 1 → ⊥ =
+          λ e. (let q : m ≡ i = apart c t (turn c (i + t)) i pos within refl m (omega arith) r (omega (arith, turn-pos c (m + t), turn-pos c (i + t))) in omega arith) in
+          getD-set-other run (turn c (i + t) - 1) (turn c (m + t) - 1) v 0 ne ∙ u .same m (omega arith) r;
+    }
+
 -- nothing is lost: the cycle adds to what its numbers add to
 one-step : (c n p i : ℕ) → 0 < n → n < i + c → i ≤ n → sum (tab (λ s. cond (eqb n s) p 0) i c) ≡ p
 unfolding sum tab

@@ -2,7 +2,7 @@
 ghost use mathlib.Core.Path.{_≡_};
 ghost use Prim.Native.Nat.{_+_, _-_, _<_, _≤_};
 ghost use Rattle.signal.specs.Turn.{turn};
-ghost use Rattle.signal.specs.Greens.{Within, inGreen};
+ghost use Rattle.signal.specs.Greens.{Within, greenStep, inGreen};
 
 // An instant: post b is the one before step b + 1.
 pub struct Post(pub u32);
@@ -37,6 +37,22 @@ pub fn later(c: u32, s: Step, steps: u32) -> Step
 {
     let before = post_before(s);
     step_after(Post((before.0 + steps) % c))
+}
+
+// Step k of a green, k from 1.
+pub fn green_step(c: u32, green: Green, k: u32) -> Step
+    requires { ⌜ (c < 1000) × Within c green × (0 < k) × (k ≤ c) ⌝ }
+    ensures { λ r. ⌜ r .0 ≡ greenStep c green k ⌝ }
+{
+    later(c, step_after(green.start), k - 1)
+}
+
+// Where a step's number stands in a list of a cycle's.
+pub fn index(s: Step) -> usize
+    requires { ⌜ 0 < s .0 ⌝ }
+    ensures { λ r. ⌜ r ≡ s .0 - 1 ⌝ }
+{
+    (s.0 - 1) as usize
 }
 
 // Whether a step is one of a green's.

@@ -1,2 +1,277 @@
-use super::File;
-pub fn file() -> File { File::default() }
+//! Vectors of the working.
+
+use super::balance_cases::{Inputs, BY_ROUNDS, BY_STOP};
+use super::discharge::refused_by_volume;
+use super::faults::{fault_pairs, faults, green_fields, volume_fields};
+use super::{profile_before, Body, File, FIRST_BEFORE, OUTPUT_BEFORE, SECOND_BEFORE};
+use crate::arrivals::ExitFigures;
+use crate::random::Random;
+use crate::record::{ACCESS_AT, CYCLE_LEAST, CYCLE_MOST, HEADWAY_AT, RUNNING_TIME_AT};
+use crate::samples::{
+    busy, put_downstream, put_entry, put_exits, put_green, put_seeds, put_u16, put_u32, quiet,
+    random_card, Card,
+};
+use crate::working::{work, Working};
+
+const SEED: u64 = 0x0101_307c;
+
+const REFUSED: Working = Working {
+    shift: 0,
+    rounds: 0,
+    last_sum: 0.0,
+    flows: [[0; 4]; 4],
+    exits: [ExitFigures { total: 0, green: 0, permille: 0 }; 3],
+    access_total: 0,
+    blocked: 0,
+};
+
+pub fn file() -> File {
+    let mut file = File::default();
+    add_lengths(&mut file);
+    add_refused_by_volume(&mut file);
+    add_faults(&mut file);
+    add_figures(&mut file);
+    add_range_ends(&mut file);
+    add_extremes(&mut file);
+    add_balances(&mut file);
+    add_random(&mut file);
+    file.push("wrong".into(), case(&busy(CYCLE_LEAST), [120, 30, 30], 1).1);
+    file
+}
+
+/// Lengths of the three profiles that are just enough.
+fn exact(cycle: u32) -> [usize; 3] {
+    let cycle = cycle as usize;
+    [4 * cycle, cycle, cycle]
+}
+
+/// A case; `off` is added to the last number of the output.
+fn case(card: &[u8], lengths: [usize; 3], off: u32) -> (u32, Body) {
+    let mut output = profile_before(OUTPUT_BEFORE, lengths[0]);
+    let mut first = profile_before(FIRST_BEFORE, lengths[1]);
+    let mut second = profile_before(SECOND_BEFORE, lengths[2]);
+    let result = work(card, &mut output, &mut first, &mut second);
+    let number = result.err().map_or(0, |refused| refused.number);
+    if let Some(last) = output.last_mut() {
+        *last += off;
+    }
+    let mut body = Body::default();
+    body.short(card.len());
+    body.bytes(card);
+    lengths.iter().for_each(|&length| body.count(length));
+    body.word(number);
+    body.bits(result.map_or_else(|refused| refused.last_sum, |working| working.last_sum));
+    put_working(&mut body, &result.unwrap_or(REFUSED));
+    [output, first, second].iter().for_each(|profile| body.words(profile));
+    (number, body)
+}
+
+fn put_working(body: &mut Body, working: &Working) {
+    body.word(working.shift);
+    body.word(working.rounds);
+    body.words(&working.flows.concat());
+    for exit in &working.exits {
+        body.long(exit.total);
+        body.long(exit.green);
+        body.word(exit.permille);
+    }
+    body.long(working.access_total);
+    body.word(working.blocked);
+}
+
+fn add(file: &mut File, card: &[u8], lengths: [usize; 3]) {
+    let (number, body) = case(card, lengths, 0);
+    file.push(format!("{number}"), body);
+}
+
+/// Profiles of awkward lengths, records of other lengths.
+fn add_lengths(file: &mut File) {
+    for cycle in [CYCLE_LEAST, 61] {
+        let [output, first, second] = exact(cycle);
+        let lengths = [
+            [output, first, second],
+            [output - 1, first, second],
+            [output, first - 1, second],
+            [output, first, second - 1],
+            [0, first, second],
+            [output, 0, second],
+            [output, first, 1],
+            [1, 1, 1],
+            [0, 0, 0],
+            [output + 1, first + 2, second + 3],
+            [output + 50, first, second + 11],
+            [output, first + output, second],
+        ];
+        lengths.into_iter().for_each(|lengths| add(file, &busy(cycle), lengths));
+    }
+    let long = [busy(30), busy(30)].concat();
+    for length in [0, 1, 67, 69, 136] {
+        add(file, &long[..length], exact(30));
+        add(file, &long[..length], [0, 0, 0]);
+    }
+}
+
+/// 13, 14 and 15, and 16 before each.
+fn add_refused_by_volume(file: &mut File) {
+    let [output, first, second] = exact(CYCLE_LEAST);
+    for card in refused_by_volume().iter().chain(&more_without_volume()) {
+        add(file, card, [output, first, second]);
+        add(file, card, [output - 1, first, second]);
+        add(file, card, [output, first - 1, second]);
+        add(file, card, [output, first, second - 1]);
+    }
+}
+
+/// No discharge by no saturation and by no green, though volumes are given.
+fn more_without_volume() -> [Card; 3] {
+    let mut no_saturation = busy(CYCLE_LEAST);
+    let mut no_green = busy(CYCLE_LEAST);
+    let mut too_little = busy(CYCLE_LEAST);
+    for i in 0..3 {
+        put_entry(&mut no_saturation, i, [500, 0, 3, 10, 500]);
+        put_entry(&mut no_green, i, [500, 1800, 3, 0, 500]);
+        put_entry(&mut too_little, i, [500, 29, 3, 1, 500]);
+    }
+    [no_saturation, no_green, too_little].map(|mut card| {
+        put_u16(&mut card, ACCESS_AT, 0);
+        card
+    })
+}
+
+/// Refusals 7 to 12 alone and two at once, before 16 and before 13.
+fn add_faults(file: &mut File) {
+    let faults = faults(CYCLE_LEAST);
+    for fault in &faults {
+        let mut card = busy(CYCLE_LEAST);
+        fault.apply(&mut card);
+        add(file, &card, exact(CYCLE_LEAST));
+    }
+    for fault in faults.iter().step_by(4) {
+        let mut card = quiet(CYCLE_LEAST);
+        fault.apply(&mut card);
+        add(file, &card, [120, 29, 30]);
+    }
+    for pair in fault_pairs(CYCLE_LEAST).iter().step_by(2) {
+        let mut card = busy(CYCLE_LEAST);
+        pair.iter().for_each(|fault| fault.apply(&mut card));
+        add(file, &card, [119, 30, 31]);
+    }
+}
+
+/// The printed example, the turns of t', and flows at the edge of blocking.
+fn add_figures(file: &mut File) {
+    let mut example = quiet(60);
+    put_u16(&mut example, ACCESS_AT, 360);
+    put_exits(&mut example, [0, 360, 0, 0]);
+    put_downstream(&mut example, [(0, 0), (0, 30), (0, 0)]);
+    add(file, &example, exact(60));
+    for running_time in [1000, 40098, 40099, 57499, 57500, 57501, 299_999, 300_000] {
+        let mut card = busy(CYCLE_LEAST);
+        put_u32(&mut card, RUNNING_TIME_AT, running_time);
+        add(file, &card, exact(CYCLE_LEAST));
+    }
+    for (volume, headway) in [(360, 10000), (361, 10000), (3600, 1000), (3601, 1000), (878, 4100), (879, 4100)] {
+        let mut card = quiet(CYCLE_LEAST);
+        put_u16(&mut card, HEADWAY_AT, headway);
+        put_u16(&mut card, ACCESS_AT, volume);
+        put_exits(&mut card, [0, 1, 0, 0]);
+        add(file, &card, exact(CYCLE_LEAST));
+    }
+}
+
+/// Every field at both ends of its range.
+fn add_range_ends(file: &mut File) {
+    let cycle = CYCLE_LEAST;
+    let mut change = |at: usize, value: u32, wide: bool| {
+        let mut card = busy(cycle);
+        let put = if wide { put_u32 } else { put_u16 };
+        put(&mut card, at, value);
+        add(file, &card, exact(cycle));
+    };
+    for (at, most) in volume_fields() {
+        change(at, 0, false);
+        change(at, u32::from(most), false);
+    }
+    for at in green_fields() {
+        for (start, length) in [(0, 0), (cycle - 1, 0), (0, cycle), (cycle - 1, cycle)] {
+            let mut green = [0; 2];
+            put_green(&mut green, 0, start, length);
+            change(at, u32::from(green[0]) | u32::from(green[1]) << 8, false);
+        }
+    }
+    change(HEADWAY_AT, 1000, false);
+    change(HEADWAY_AT, 10000, false);
+    change(0, 0, true);
+    change(0, u32::MAX, true);
+}
+
+/// The most of everything, and entries with no discharge beside busy ones.
+fn add_extremes(file: &mut File) {
+    for cycle in [CYCLE_LEAST, 97, CYCLE_MOST] {
+        for running_time in [1000, 300_000] {
+            let mut card = quiet(cycle);
+            put_u32(&mut card, RUNNING_TIME_AT, running_time);
+            put_u16(&mut card, HEADWAY_AT, 10000);
+            for i in 0..3 {
+                put_entry(&mut card, i, [6000, 12000, cycle - 1, cycle, 500 * i as u32]);
+            }
+            put_u16(&mut card, ACCESS_AT, 6000);
+            put_exits(&mut card, [12000; 4]);
+            put_downstream(&mut card, [(cycle - 1, cycle), (cycle - 1, 1), (cycle / 2, cycle)]);
+            put_seeds(&mut card, &[[25; 4]; 4]);
+            add(file, &card, exact(cycle));
+            put_exits(&mut card, [0, 12000, 0, 0]);
+            add(file, &card, exact(cycle));
+            put_entry(&mut card, 2, [6000, 12000, cycle / 2, cycle / 2, 0]);
+            add(file, &card, exact(cycle));
+        }
+    }
+    for idle in 0..7 {
+        let mut card = busy(47);
+        for i in (0..3).filter(|i| idle >> i & 1 == 1) {
+            put_entry(&mut card, i, [0, 1800, 40, 20, 700]);
+        }
+        add(file, &card, exact(47));
+    }
+}
+
+/// The rare balances, as the discharge volumes of records.
+fn add_balances(file: &mut File) {
+    let by_rounds = BY_ROUNDS.iter().map(|(_, inputs)| inputs);
+    for inputs in by_rounds.chain(BY_STOP.iter().step_by(3).map(|(_, _, inputs)| inputs)) {
+        add(file, &balance_card(inputs), exact(CYCLE_LEAST));
+    }
+}
+
+fn balance_card((discharge, exits, seeds): &Inputs) -> Card {
+    let mut card = quiet(CYCLE_LEAST);
+    for i in 0..3u32 {
+        put_entry(&mut card, i as usize, [discharge[i as usize], 12000, 7 * i, 15 + i, 300 * i]);
+    }
+    put_u16(&mut card, ACCESS_AT, discharge[3]);
+    put_exits(&mut card, *exits);
+    put_seeds(&mut card, seeds);
+    card
+}
+
+/// Random records, one in four at 240 steps and 300 s, some with longer profiles.
+fn add_random(file: &mut File) {
+    let mut random = Random::new(SEED);
+    for n in 0..260 {
+        let cycle = match n % 8 {
+            0 => CYCLE_MOST,
+            1 => CYCLE_LEAST,
+            2 => random.between(91, 239),
+            _ => random.between(30, 90),
+        };
+        let mut card = random_card(&mut random, cycle);
+        if n % 4 == 0 {
+            put_u32(&mut card, RUNNING_TIME_AT, 300_000);
+        }
+        let mut lengths = exact(cycle);
+        if n % 5 == 0 {
+            lengths = lengths.map(|length| length + random.below(9) as usize);
+        }
+        add(file, &card, lengths);
+    }
+}

@@ -1,0 +1,95 @@
+// Platoon discharge: what one signalised entry sends into the segment in each step of a cycle.
+ghost use mathlib.Core.Path.{_≡_};
+ghost use Prim.Native.Nat.{_+_, _-_, _*_, _/_, _≤_, _<_, min};
+ghost use lib.ListN.{length, replicate};
+ghost use Rattle.signal.specs.Greens.{Within};
+ghost use Rattle.signal.specs.Landing.{added};
+ghost use Rattle.platoon.specs.Discharge.{profileOf, queueOf, served, servedOf};
+use signal::Green;
+
+// The queue of a green: what waits as it starts, what arrives while it lasts, what a step can serve.
+pub struct Queue {
+    pub waiting: u64,
+    pub arriving: u64,
+    pub rate: u32,
+}
+
+// One green step: what it discharges, and what waits after it.
+pub struct Served {
+    pub flow: u32,
+    pub waiting: u64,
+}
+
+fn serve(queue: u64, rate: u32) -> Served
+    ensures { λ r. ⌜ r ≡ servedOf queue rate ⌝ }
+{
+    let most = rate as u64;
+    if queue < most {
+        return Served {
+            flow: queue as u32,
+            waiting: 0,
+        };
+    }
+    Served {
+        flow: rate,
+        waiting: queue - most,
+    }
+}
+
+// What has arrived on green by the end of its step k.
+fn arrived(k: u32, arriving: u64, g: u32) -> u64
+    requires { ⌜ (0 < g) × (k ≤ 1000) × (arriving ≤ 1000000000000) ⌝ }
+    ensures { λ r. ⌜ r ≡ k * arriving / g ⌝ }
+{
+    (k as u64) * arriving / (g as u64)
+}
+
+// Serves the queue step by step of the green, into an empty cycle.
+fn release(green: Green, queue: Queue, run: &mut [u32])
+    requires { ⌜ (length (now run) < 1000) × Within (length (now run)) green ⌝ }
+    requires { ⌜ (queue .waiting ≤ 1000000000000) × (queue .arriving ≤ 1000000000000) ⌝ }
+    requires { ⌜ now run ≡ replicate (length (now run)) 0 ⌝ }
+    ensures { λ _. ⌜ now (run .exit) ≡ added (length (now (run .entry))) (green .start .0) 1 (served (queue .arriving) (green .steps) (queue .rate) (green .steps) 1 (queue .waiting)) (now (run .entry)) ⌝ }
+{
+    let c = run.len() as u32;
+    let g = green.steps;
+    let mut waiting = queue.waiting;
+    let mut passed: u64 = 0;
+    let mut left = g;
+    let mut k: u32 = 1;
+    while 0 < left {
+        let reached = arrived(k, queue.arriving, g);
+        let step = serve(waiting + (reached - passed), queue.rate);
+        let at = signal::index(signal::green_step(c, green, k));
+        run[at] += step.flow;
+        waiting = step.waiting;
+        passed = reached;
+        left -= 1;
+        k += 1;
+    }
+}
+
+// The queue of a cycle of c steps at a discharge volume: what does not arrive on green waits when green starts.
+fn queue_of(c: u32, saturation: u32, arriving: u32, volume: u32) -> Queue
+    requires { ⌜ (c < 1000) × (saturation ≤ 12000) × (arriving ≤ 1000) × (volume ≤ 6000) ⌝ }
+    ensures { λ r. ⌜ r ≡ queueOf c saturation arriving volume ⌝ }
+{
+    let all = 1000 * (volume as u64) * (c as u64);
+    let on_green = all * (arriving as u64) / 1000;
+    Queue {
+        waiting: all - on_green,
+        arriving: on_green,
+        rate: 1000 * saturation,
+    }
+}
+
+// Writes an entry's discharge profile over a run of the cycle's length.
+pub fn discharge(green: Green, saturation: u32, arriving: u32, volume: u32, run: &mut [u32])
+    requires { ⌜ (length (now run) < 1000) × Within (length (now run)) green ⌝ }
+    requires { ⌜ (saturation ≤ 12000) × (arriving ≤ 1000) × (volume ≤ 6000) ⌝ }
+    ensures { λ _. ⌜ now (run .exit) ≡ profileOf (length (now (run .entry))) green saturation arriving volume ⌝ }
+{
+    runs::fill(run, 0);
+    let queue = queue_of(run.len() as u32, saturation, arriving, volume);
+    release(green, queue, run);
+}
