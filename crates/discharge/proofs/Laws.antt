@@ -1,0 +1,117 @@
+-- What the discharge call answers and writes, over plain variables.
+use Prim.Native.Nat.{ℕ, _+_, _-_, _*_, _≤_, _<_}
+use native.Mathlib.Omega.{arith}
+use native.Mathlib.Nat.{sub-zero}
+use mathlib.Core.Bool.{Bool, true, false}
+use mathlib.Core.Path.{_≡_, refl, ap, sym, _∙_}
+use mathlib.Core.List.{List, [], _∷_, _++_, append-assoc}
+use lib.Dec.{leb}
+use lib.ListN.{length, take, drop, length-append}
+use lib.Seq.{take-at, drop-at, drop-drop}
+use borrow.Author.Tests.{le-leb, lt-leb, leb-true}
+use Rattle.refusal.specs.Refusal.{Or, refused, ok, need, need-passed, need-rest, andThen}
+use Rattle.lists.specs.Lists.{tab-length}
+use Rattle.signal.specs.Landing.{landed, landing}
+use Rattle.segment.specs.declared.Entry.{Entry}
+use Rattle.segment.specs.declared.Segment.{Segment}
+use Rattle.segment.specs.declared.Checked.{Checked}
+use Rattle.segment.specs.declared.Checked.the-variants.{Refused, Valid}
+use Rattle.segment.specs.Segment.{checkOf, checkedOf}
+use Rattle.segment.specs.Ranges.{EntryRanges, Ranges, accepted}
+use Rattle.metering.specs.Metering.{discharged, discharged-volume}
+use Rattle.platoon.specs.Discharge.{profileOf, greenFlows, queueOf}
+use Rattle.discharge.specs.declared.Discharged.{Discharged}
+use Rattle.discharge.specs.declared.Discharged.the-variants as d
+use Rattle.discharge.specs.Discharge.{entryProfile, acceptOf, answerOf, written, profileAfter, Calls}
+
+-- an answer of a check is the definition's
+pub checked-refused : (x : Or Segment) (n : ℕ) → checkedOf x ≡ Refused n → x ≡ refused n
+checked-refused (refused m) n e = cc
+checked-refused (ok s) n e = cc
+
+pub checked-valid : (x : Or Segment) (s : Segment) → checkedOf x ≡ Valid s → x ≡ ok s
+checked-valid (refused m) s e = cc
+checked-valid (ok t) s e = cc
+
+module _ (l : List ℕ) (room : ℕ) where
+  pub accept-refused : (n : ℕ) → checkedOf (checkOf l) ≡ Refused n → Refused n ≡ checkedOf (acceptOf l room)
+  unfolding acceptOf
+  accept-refused n e = rw (checked-refused (checkOf l) n e)
+
+  pub accept-short : (s : Segment) → checkedOf (checkOf l) ≡ Valid s → room < 3 * s .cycle → Refused 16 ≡ checkedOf (acceptOf l room)
+  unfolding acceptOf need
+  accept-short s e h = rw (checked-valid (checkOf l) s e, lt-leb (3 * s .cycle) room h)
+
+  pub accept-valid : (s : Segment) → checkedOf (checkOf l) ≡ Valid s → 3 * s .cycle ≤ room → Valid s ≡ checkedOf (acceptOf l room)
+  unfolding acceptOf need
+  accept-valid s e h = rw (checked-valid (checkOf l) s e, le-leb (3 * s .cycle) room h)
+
+  -- what was accepted is in its ranges and has room
+  pub accepted-room : (s : Segment) → acceptOf l room ≡ ok s → Ranges s × (3 * s .cycle ≤ room)
+  unfolding acceptOf
+  accepted-room s e = go (checkOf l) refl e
+    where
+      go : (x : Or Segment) → checkOf l ≡ x → andThen x (λ t. need 16 (leb (3 * t .cycle) room) (ok t)) ≡ ok s → Ranges s × (3 * s .cycle ≤ room)
+      go (refused n) q f = let z : _≡_ {A = ℕ} 0 1 = cc in absurd (omega arith)
+      go (ok t) q f =
+        let r = need-rest 16 (leb (3 * t .cycle) room) (ok t) s f in
+        let same : t ≡ s = cc in
+        let k = leb-true (3 * t .cycle) room (need-passed 16 (leb (3 * t .cycle) room) (ok t) s f) in
+        (accepted l s (q ∙ ap (λ (u : Segment). ok u) same) .ranges, (rw same at k))
+
+pub entry-length : (c : ℕ) (e : Entry) → length (entryProfile c e) ≡ c
+unfolding entryProfile profileOf landed
+entry-length c e = tab-length _ 1 c
+
+-- what an entry's discharge asks
+pub entry-asks : (c o : ℕ) (e : Entry) → EntryRanges c e → o ≡ discharged c e → o ≤ 6000
+entry-asks c o e r h = omega (arith, h, discharged-volume c e, r .volume)
+
+-- three runs lent one after the other
+module _ (c : ℕ) (p y1 y2 y3 : List ℕ) (l1 : length y1 ≡ c) (l2 : length y2 ≡ c) where
+  abbrev after-one : List ℕ
+  after-one = y1 ++ drop (c - 0) p
+
+  abbrev after-two : List ℕ
+  after-two = take c after-one ++ (y2 ++ drop (c + c - c) (drop c after-one))
+
+  two-runs : after-two ≡ (y1 ++ y2) ++ drop (c + c) p
+
+  two-runs =
+      let e : c + c - c ≡ c = omega arith in
+      rw (take-at y1 (drop (c - 0) p) c l1, drop-at y1 (drop (c - 0) p) c l1, sub-zero, e, drop-drop, append-assoc)
+
+  pub three-runs : take (c + c) after-two ++ (y3 ++ drop (c + c + c - (c + c)) (drop (c + c) after-two)) ≡ y1 ++ (y2 ++ (y3 ++ drop (3 * c) p))
+  three-runs =
+      let l : length (y1 ++ y2) ≡ c + c = rw (length-append, l1, l2) in
+      let e : c + c + c - (c + c) ≡ c = omega arith in
+      let t : c + c + c ≡ 3 * c = omega arith in
+      rw (two-runs, take-at (y1 ++ y2) (drop (c + c) p) (c + c) l, drop-at (y1 ++ y2) (drop (c + c) p) (c + c) l, e, drop-drop, t, append-assoc)
+
+-- the whole profile from the three
+pub all-written : (s : Segment) (p y1 y2 y3 : List ℕ) → y1 ≡ entryProfile (s .cycle) (s .left) → y2 ≡ entryProfile (s .cycle) (s .through) →
+    y3 ≡ entryProfile (s .cycle) (s .right) →
+    take (s .cycle + s .cycle) (take (s .cycle) (y1 ++ drop (s .cycle - 0) p) ++ (y2 ++ drop (s .cycle + s .cycle - s .cycle) (drop (s .cycle) (y1 ++ drop (s .cycle - 0) p))))
+    ++ (y3 ++ drop (s .cycle + s .cycle + s .cycle - (s .cycle + s .cycle))
+      (drop (s .cycle + s .cycle) (take (s .cycle) (y1 ++ drop (s .cycle - 0) p) ++ (y2 ++ drop (s .cycle + s .cycle - s .cycle) (drop (s .cycle) (y1 ++ drop (s .cycle - 0) p))))))
+    ≡ written s p
+unfolding written
+all-written s p y1 y2 y3 e1 e2 e3 =
+    three-runs (s .cycle) p y1 y2 y3 (ap length e1 ∙ entry-length (s .cycle) (s .left)) (ap length e2 ∙ entry-length (s .cycle) (s .through))
+    ∙ rw (e1, e2, e3)
+
+-- the call from what it decided
+module _ (l p : List ℕ) where
+  pub refuses : (n : ℕ) → checkedOf (acceptOf l (length p)) ≡ Refused n → Calls l p (d.Refused n) p
+  refuses n e =
+      let q = checked-refused (acceptOf l (length p)) n e in
+      record { answer = rw q; profile = rw q }
+
+  pub asks : (s : Segment) → checkedOf (acceptOf l (length p)) ≡ Valid s → Ranges s × (3 * s .cycle ≤ length p)
+  asks s e = accepted-room l (length p) s (checked-valid (acceptOf l (length p)) s e)
+
+  pub writes : (s : Segment) → checkedOf (acceptOf l (length p)) ≡ Valid s → (r : Discharged) (p′ : List ℕ) → r ≡ answerOf (ok s) → p′ ≡ written s p →
+      Calls l p r p′
+  writes s e r p′ er ep =
+      let q = checked-valid (acceptOf l (length p)) s e in
+      record { answer = er ∙ rw q; profile = ep ∙ rw q }

@@ -1,0 +1,43 @@
+-- The discharge call on a segment record: three profiles of C numbers each, entries in order, and the three discharge volumes.
+use Prim.Native.Nat.{ℕ, _+_, _*_}
+use mathlib.Core.Path.{_≡_}
+use mathlib.Core.List.{List, _++_}
+use lib.Dec.{leb}
+use lib.ListN.{length, drop}
+use Rattle.refusal.specs.Refusal.{Or, refused, ok, need, andThen}
+use Rattle.segment.specs.declared.Entry.{Entry}
+use Rattle.segment.specs.declared.Segment.{Segment}
+use Rattle.segment.specs.Segment.{checkOf}
+use Rattle.metering.specs.Metering.{discharged}
+use Rattle.platoon.specs.Discharge.{profileOf}
+use Rattle.discharge.specs.declared.Discharged.{Discharged}
+use Rattle.discharge.specs.declared.Discharged.the-variants.{Refused, Volumes}
+
+-- one entry's cycle
+unfoldable pub entryProfile : ℕ → Entry → List ℕ
+entryProfile c e = profileOf c (e .green) (e .saturation) (e .arriving) (discharged c e)
+
+-- the places record and lent profiles, and no other
+unfoldable pub acceptOf : List ℕ → ℕ → Or Segment
+acceptOf l room = andThen (checkOf l) (λ s. need 16 (leb (3 * s .cycle) room) (ok s))
+
+-- the answer's cases: the paper's number, or the three discharge volumes
+abbrev pub answerOf : Or Segment → Discharged
+answerOf (refused n) = Refused n
+answerOf (ok s) = Volumes (discharged (s .cycle) (s .left)) (discharged (s .cycle) (s .through)) (discharged (s .cycle) (s .right))
+
+-- three runs in order, numbers beyond staying
+unfoldable pub written : Segment → List ℕ → List ℕ
+written s p =
+    entryProfile (s .cycle) (s .left)
+    ++ (entryProfile (s .cycle) (s .through) ++ (entryProfile (s .cycle) (s .right) ++ drop (3 * s .cycle) p))
+
+-- the lent profile afterwards: as it was where the call refuses
+abbrev pub profileAfter : Or Segment → List ℕ → List ℕ
+profileAfter (refused n) p = p
+profileAfter (ok s) p = written s p
+
+-- what the call answers and leaves in the profile
+pub record Calls (l p : List ℕ) (r : Discharged) (p′ : List ℕ) : Type 0 where
+  pub answer : r ≡ answerOf (acceptOf l (length p))
+  pub profile : p′ ≡ profileAfter (acceptOf l (length p)) p

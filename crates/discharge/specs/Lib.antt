@@ -1,0 +1,2 @@
+pub mod Discharge
+pub mod Totals

@@ -1,0 +1,34 @@
+-- Of every accepted record each entry's profile adds to what its cycle carries: T = 1000·O·C.
+use Prim.Native.Nat.{ℕ, _≤_}
+use native.Mathlib.Omega.{arith}
+use mathlib.Core.Path.{_≡_}
+use mathlib.Core.List.{List}
+use Rattle.refusal.specs.Refusal.{ok}
+use Rattle.lists.specs.Lists.{sum}
+use Rattle.segment.specs.declared.Entry.{Entry}
+use Rattle.segment.specs.declared.Segment.{Segment}
+use Rattle.segment.specs.Segment.{checkOf}
+use Rattle.segment.specs.Ranges.{EntryRanges, Ranges, accepted}
+use Rattle.metering.specs.Metering.{discharged, discharged-served}
+use Rattle.platoon.specs.Discharge.{carried}
+use Rattle.platoon.specs.Conserved.{profile-sum}
+use Rattle.discharge.specs.Discharge.{entryProfile}
+
+pub entry-adds : (c : ℕ) (e : Entry) → 30 ≤ c → EntryRanges c e → sum (entryProfile c e) ≡ carried c (discharged c e)
+unfolding entryProfile
+entry-adds c e h r =
+    profile-sum c (e .green) (e .saturation) (e .arriving) (discharged c e) (omega arith) (r .arriving) (discharged-served c e)
+
+pub record Adds (s : Segment) : Type 0 where
+  pub left : sum (entryProfile (s .cycle) (s .left)) ≡ carried (s .cycle) (discharged (s .cycle) (s .left))
+  pub through : sum (entryProfile (s .cycle) (s .through)) ≡ carried (s .cycle) (discharged (s .cycle) (s .through))
+  pub right : sum (entryProfile (s .cycle) (s .right)) ≡ carried (s .cycle) (discharged (s .cycle) (s .right))
+
+pub cycles-add : (l : List ℕ) (s : Segment) → checkOf l ≡ ok s → Adds s
+cycles-add l s e =
+    let r = accepted l s e .ranges in
+    record {
+      left = entry-adds (s .cycle) (s .left) (r .cycle .0) (r .left);
+      through = entry-adds (s .cycle) (s .through) (r .cycle .0) (r .through);
+      right = entry-adds (s .cycle) (s .right) (r .cycle .0) (r .right)
+    }

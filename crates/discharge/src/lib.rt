@@ -1,0 +1,74 @@
+// The discharge call: a segment record's three discharge profiles and volumes, or a refusal by number.
+ghost use mathlib.Core.Path.{_≡_};
+ghost use Prim.Native.Nat.{_*_, _≤_};
+ghost use lib.ListN.{length};
+ghost use Rattle.segment.specs.Ranges.{EntryRanges, Ranges};
+ghost use Rattle.segment.specs.Segment.{checkedOf};
+ghost use Rattle.metering.specs.Metering.{discharged as dischargedOf};
+ghost use Rattle.discharge.specs.Discharge.{Calls, acceptOf, entryProfile, written};
+
+use segment::Checked;
+use segment::Entry;
+use segment::Segment;
+
+// The paper's number, or the three entries' discharge volumes in veh/h.
+pub enum Discharged {
+    Refused(u32),
+    Volumes { left: u32, through: u32, right: u32 },
+}
+
+// Every refusal of the call, before anything is written.
+fn accept(bytes: &[u8], room: usize) -> Checked
+    ensures { λ r. ⌜ r ≡ checkedOf (acceptOf (now (bytes .entry)) room) ⌝ }
+{
+    let checked = segment::check(bytes);
+    match checked {
+        Checked::Refused(n) => Checked::Refused(n),
+        Checked::Valid(s) => {
+            if (room as u64) < 3 * (s.cycle as u64) {
+                return Checked::Refused(16);
+            }
+            Checked::Valid(s)
+        }
+    }
+}
+
+// One entry's profile over a run of the cycle's length, and its discharge volume.
+fn write_entry(c: u32, e: Entry, run: &mut [u32]) -> u32
+    requires { ⌜ (30 ≤ c) × (c ≤ 240) × (length (now run) ≡ c) × EntryRanges c e ⌝ }
+    ensures { λ r. ⌜ r ≡ dischargedOf c e ⌝ }
+    ensures { λ _. ⌜ now (run .exit) ≡ entryProfile c e ⌝ }
+{
+    let o = metering::discharged(c, e);
+    platoon::discharge(e.green, e.saturation, e.arriving, o, run);
+    o
+}
+
+fn write(s: Segment, profile: &mut [u32]) -> Discharged
+    requires { ⌜ Ranges s × (3 * s .cycle ≤ length (now profile)) ⌝ }
+    ensures { λ r. ⌜ r ≡ Discharged.Volumes (dischargedOf (s .cycle) (s .left)) (dischargedOf (s .cycle) (s .through)) (dischargedOf (s .cycle) (s .right)) ⌝ }
+    ensures { λ _. ⌜ now (profile .exit) ≡ written s (now (profile .entry)) ⌝ }
+{
+    let one = s.cycle as usize;
+    let two = one + one;
+    let three = two + one;
+    let left = write_entry(s.cycle, s.left, &mut profile[0..one]);
+    let through = write_entry(s.cycle, s.through, &mut profile[one..two]);
+    let right = write_entry(s.cycle, s.right, &mut profile[two..three]);
+    Discharged::Volumes {
+        left,
+        through,
+        right,
+    }
+}
+
+// The three discharge profiles, C numbers each, to the front of a lent profile, and the three discharge volumes.
+pub fn discharge(bytes: &[u8], profile: &mut [u32]) -> Discharged
+    ensures { λ r. ⌜ Calls (now (bytes .entry)) (now (profile .entry)) r (now (profile .exit)) ⌝ }
+{
+    let accepted = accept(bytes, profile.len());
+    match accepted {
+        Checked::Refused(n) => Discharged::Refused(n),
+        Checked::Valid(s) => write(s, profile),
+    }
+}
