@@ -43,7 +43,10 @@ fn class(outcome: Outcome, rounds: u32, stop: Option<Stop>) -> Option<(String, S
         }
         (Outcome::Unsettled(_), Some(stop)) => {
             let late = if rounds + 1 < ROUND_LIMIT { 0 } else { rounds };
-            Some((format!("{stop:?} {late}"), format!("Stop::{stop:?}, {rounds}")))
+            Some((
+                format!("{stop:?} {late}"),
+                format!("Stop::{stop:?}, {rounds}"),
+            ))
         }
         _ => None,
     }
@@ -56,7 +59,10 @@ fn idle_exit(random: &mut Random) -> Option<String> {
     let heavy = [0, 1, 99, 0];
     let seeds = [heavy, heavy, heavy, [0, 0, 0, 100]];
     let result = balance(&discharge, &exits, &seeds, ROUND_LIMIT);
-    let line = format!("    (Stop::ExitVolume, {}, ({discharge:?}, {exits:?}, {seeds:?})),", result.rounds);
+    let line = format!(
+        "    (Stop::ExitVolume, {}, ({discharge:?}, {exits:?}, {seeds:?})),",
+        result.rounds
+    );
     (result.stop == Some(Stop::ExitVolume)).then_some(line)
 }
 
@@ -79,7 +85,9 @@ fn main() {
         };
         let kept = found.entry(class).or_default();
         if kept.len() < KEPT {
-            kept.push(format!("    ({start}, ({discharge:?}, {exits:?}, {seeds:?})),"));
+            kept.push(format!(
+                "    ({start}, ({discharge:?}, {exits:?}, {seeds:?})),"
+            ));
         }
     }
     found.values().flatten().for_each(|line| println!("{line}"));

@@ -26,7 +26,10 @@ pub struct Archive<'a> {
 pub fn read(bytes: &[u8]) -> Result<Archive<'_>, Refusal> {
     let archive = read_end(bytes)?;
     archive.check_places()?;
-    if !archive.records().all(|place| good_title(archive.title_at(place))) {
+    if !archive
+        .records()
+        .all(|place| good_title(archive.title_at(place)))
+    {
         return Err(refusal::TITLE);
     }
     archive.check_numbers()?;
@@ -43,7 +46,11 @@ fn read_end(bytes: &[u8]) -> Result<Archive<'_>, Refusal> {
     if count > COUNT_MOST || trailer + 2 * count + TRAILER_END != length {
         return Err(refusal::ARCHIVE_TRAILER);
     }
-    Ok(Archive { bytes, count, trailer })
+    Ok(Archive {
+        bytes,
+        count,
+        trailer,
+    })
 }
 
 fn title_at(bytes: &[u8], place: usize) -> &[u8] {
@@ -116,12 +123,16 @@ impl<'a> Archive<'a> {
 
     /// The last number filed, 0 if none.
     fn last_number(&self) -> u32 {
-        self.records().last().map_or(0, |place| self.number_at(place))
+        self.records()
+            .last()
+            .map_or(0, |place| self.number_at(place))
     }
 
     fn find(&self, number: u32) -> Result<usize, Refusal> {
         let mut places = self.records();
-        places.find(|&place| self.number_at(place) == number).ok_or(refusal::ABSENT)
+        places
+            .find(|&place| self.number_at(place) == number)
+            .ok_or(refusal::ABSENT)
     }
 }
 
@@ -160,12 +171,7 @@ fn check_add(old: &Archive, record: &[u8], title: &[u8], room: usize) -> Result<
 }
 
 /// Writes the old archive plus one record to `buffer`; gives the new length.
-pub fn add(
-    bytes: &[u8],
-    record: &[u8],
-    title: &[u8],
-    buffer: &mut [u8],
-) -> Result<usize, Refusal> {
+pub fn add(bytes: &[u8], record: &[u8], title: &[u8], buffer: &mut [u8]) -> Result<usize, Refusal> {
     let old = read(bytes)?;
     let length = check_add(&old, record, title, buffer.len())?;
     let count = old.count as u16 + 1;

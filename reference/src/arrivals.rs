@@ -25,7 +25,11 @@ impl PairShare {
     /// `flow` of the entry's `volume`, which is not 0.
     pub fn new(flow: u32, volume: u32) -> PairShare {
         let whole = u64::from(UNITS) * u64::from(volume);
-        PairShare { flow: u64::from(flow), whole, carry: 0 }
+        PairShare {
+            flow: u64::from(flow),
+            whole,
+            carry: 0,
+        }
     }
 
     pub fn take(&mut self, arrival: u32) -> u32 {
@@ -56,9 +60,16 @@ pub fn landing(step: Step, shift: u32, cycle: u32) -> Step {
 /// Total, part on green and thousandths of one exit's run.
 pub fn exit_figures(run: &[u32], green: Green) -> ExitFigures {
     let total = total(run);
-    let on_green = green.steps(run.len() as u32).map(|step| u64::from(run[step.index()])).sum();
-    let permille = if total == 0 { 0 } else { 1000 * on_green / total };
-    ExitFigures { total, green: on_green, permille: permille as u32 }
+    let on_green = green
+        .steps(run.len() as u32)
+        .map(|step| u64::from(run[step.index()]))
+        .sum();
+    let permille = (1000 * on_green).checked_div(total).unwrap_or(0);
+    ExitFigures {
+        total,
+        green: on_green,
+        permille: permille as u32,
+    }
 }
 
 pub fn total(run: &[u32]) -> u64 {

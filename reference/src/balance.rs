@@ -104,7 +104,11 @@ impl Problem {
         if !sum.is_finite() {
             return Err(Stop::Sum);
         }
-        Ok(Round { origins, ratios, sum })
+        Ok(Round {
+            origins,
+            ratios,
+            sum,
+        })
     }
 
     /// b of each exit from its adjusted volume Da.
@@ -132,7 +136,13 @@ impl Problem {
             return Err(Stop::FactorZero);
         }
         let origin = |i: usize| self.origins[i] / factors[i];
-        let origins = four(|i| if self.origins[i] == 0.0 { 0.0 } else { origin(i) });
+        let origins = four(|i| {
+            if self.origins[i] == 0.0 {
+                0.0
+            } else {
+                origin(i)
+            }
+        });
         if !finite(&origins) {
             return Err(Stop::Origin);
         }
@@ -150,12 +160,22 @@ impl Problem {
         if !cells.iter().all(finite) {
             return unsettled(round.sum, rounds, Some(Stop::Cell));
         }
-        Balance { outcome: Outcome::Settled(round.sum), rounds, cells, stop: None }
+        Balance {
+            outcome: Outcome::Settled(round.sum),
+            rounds,
+            cells,
+            stop: None,
+        }
     }
 }
 
 fn unsettled(last_sum: f64, rounds: u32, stop: Option<Stop>) -> Balance {
-    Balance { outcome: Outcome::Unsettled(last_sum), rounds, cells: [[0.0; 4]; 4], stop }
+    Balance {
+        outcome: Outcome::Unsettled(last_sum),
+        rounds,
+        cells: [[0.0; 4]; 4],
+        stop,
+    }
 }
 
 /// Balances volumes that passed `check_volumes`, in at most `limit` rounds.

@@ -46,5 +46,7 @@ pub fn discharge(bytes: &[u8], profile: &mut [u32]) -> Result<[u32; 3], Refusal>
     for (entry, part) in record.entries.iter().zip(profile.chunks_exact_mut(cycle)) {
         fill_discharge(entry, part);
     }
-    Ok(record.entries.map(|entry| discharge_volume(&entry, record.cycle)))
+    Ok(record
+        .entries
+        .map(|entry| discharge_volume(&entry, record.cycle)))
 }

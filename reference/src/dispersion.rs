@@ -25,7 +25,11 @@ pub struct Street {
 
 impl Street {
     pub fn empty(running_time: u32) -> Street {
-        Street { denominator: denominator(running_time), level: 0, carry: 0 }
+        Street {
+            denominator: denominator(running_time),
+            level: 0,
+            carry: 0,
+        }
     }
 
     /// One step: takes a discharge, gives the arrival.
@@ -48,7 +52,11 @@ pub fn disperse<'a>(
 ) -> &'a [u32] {
     let mut street = Street::empty(running_time);
     for cycle in 0..CYCLES {
-        let profile = if cycle % 2 == 0 { &mut *first } else { &mut *second };
+        let profile = if cycle % 2 == 0 {
+            &mut *first
+        } else {
+            &mut *second
+        };
         for (arrival, &leaving) in profile.iter_mut().zip(discharge) {
             *arrival = street.step(leaving);
         }

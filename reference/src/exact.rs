@@ -47,7 +47,11 @@ fn platoons(record: &Record) -> Vec<Platoon> {
         let mut street = Street::empty(record.running_time);
         let all = leaving.iter().cycle().take(CYCLES * leaving.len());
         let arrivals = all.map(|&q| street.step(q)).collect();
-        Platoon { whole: u64::from(UNITS) * u64::from(volumes[i]), leaving, arrivals }
+        Platoon {
+            whole: u64::from(UNITS) * u64::from(volumes[i]),
+            leaving,
+            arrivals,
+        }
     };
     (0..3).map(platoon).collect()
 }
@@ -82,7 +86,13 @@ fn check_exit_flows(worked: &Worked, platoons: &[Platoon]) -> Result<(), String>
         }
         power = power.times(divisor);
         if k > (CYCLES as u32 - 1) * cycle {
-            check_step(worked, platoons, &exact, &power, landing(step, shift, cycle))?;
+            check_step(
+                worked,
+                platoons,
+                &exact,
+                &power,
+                landing(step, shift, cycle),
+            )?;
         }
     }
     Ok(())
@@ -96,7 +106,9 @@ fn check_step(
     power: &Natural,
     landed: Step,
 ) -> Result<(), String> {
-    let busy: Vec<usize> = (0..platoons.len()).filter(|&i| platoons[i].whole > 0).collect();
+    let busy: Vec<usize> = (0..platoons.len())
+        .filter(|&i| platoons[i].whole > 0)
+        .collect();
     let over = |skip: usize, start: Natural| {
         let others = busy.iter().filter(|&&i| i != skip);
         others.fold(start, |product, &i| product.times(platoons[i].whole))
@@ -105,7 +117,9 @@ fn check_step(
     for j in 0..4 {
         let share = |i: usize| u64::from(worked.working.flows[i][j]);
         let access = common.times(share(ACCESS));
-        let flow = busy.iter().fold(access, |sum, &i| sum.plus(&over(i, exact[i].times(share(i)))));
+        let flow = busy.iter().fold(access, |sum, &i| {
+            sum.plus(&over(i, exact[i].times(share(i))))
+        });
         let run = &worked.output[j * worked.record.cycle as usize..];
         let found = u64::from(run[landed.index()]);
         let low = common.times(found);

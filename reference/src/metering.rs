@@ -9,7 +9,9 @@ pub fn capacity(saturation: u32, green_length: u32, cycle: u32) -> u32 {
 
 /// Discharge volume of a signalised entry (paper: O).
 pub fn discharge_volume(entry: &Entry, cycle: u32) -> u32 {
-    entry.volume.min(capacity(entry.saturation, entry.green.length, cycle))
+    entry
+        .volume
+        .min(capacity(entry.saturation, entry.green.length, cycle))
 }
 
 /// Discharge volumes of the four entries; access discharges its volume.

@@ -35,7 +35,11 @@ impl Natural {
     }
 
     pub fn plus(&self, other: &Natural) -> Natural {
-        let (long, short) = if self.0.len() < other.0.len() { (other, self) } else { (self, other) };
+        let (long, short) = if self.0.len() < other.0.len() {
+            (other, self)
+        } else {
+            (self, other)
+        };
         let mut digits = Vec::with_capacity(long.0.len() + 1);
         let mut carry = 0;
         for (at, &digit) in long.0.iter().enumerate() {
@@ -74,7 +78,10 @@ mod tests {
         let product = Natural::one().times(most).times(most);
         let twice = Natural::one().times(most).times(2);
         assert_eq!(product.plus(&twice), Natural(vec![u32::MAX, u32::MAX]));
-        assert_eq!(product.plus(&twice).plus(&Natural::one()), Natural(vec![0, 0, 1]));
+        assert_eq!(
+            product.plus(&twice).plus(&Natural::one()),
+            Natural(vec![0, 0, 1])
+        );
         assert!(product < product.plus(&Natural::one()));
         assert!(twice < product && Natural::zero() < Natural::one());
         assert_eq!(product.times(0), Natural::zero());

@@ -33,12 +33,7 @@ pub const ACCESS: usize = 3;
 pub type Seeds = [[u8; 4]; 4];
 
 /// Exhibit 30-2: what sixteen zero seeds mean.
-pub const DEFAULT_SEEDS: Seeds = [
-    [2, 91, 5, 2],
-    [10, 78, 10, 2],
-    [5, 92, 2, 1],
-    [2, 97, 1, 0],
-];
+pub const DEFAULT_SEEDS: Seeds = [[2, 91, 5, 2], [10, 78, 10, 2], [5, 92, 2, 1], [2, 97, 1, 0]];
 
 /// A signalised entry.
 #[derive(Clone, Copy, Debug, PartialEq, Eq)]

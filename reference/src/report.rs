@@ -3,7 +3,7 @@
 use std::io::Write;
 
 use crate::archive::read;
-use crate::record::{CYCLE_AT, CYCLE_MOST, read_u16};
+use crate::record::{read_u16, CYCLE_AT, CYCLE_MOST};
 use crate::refusal::{self, Refusal};
 use crate::working::{work, Working};
 
@@ -29,7 +29,10 @@ pub fn report(input: &[u8], text: &mut Vec<u8>) {
         let record = archive.record_at(place);
         match work(record, &mut output, &mut first, &mut second) {
             Ok(working) => write_working(text, number, read_u16(record, CYCLE_AT), &working),
-            Err(refused) => print(text, format_args!("card {number} refused {}\n", refused.number)),
+            Err(refused) => print(
+                text,
+                format_args!("card {number} refused {}\n", refused.number),
+            ),
         }
     }
 }
@@ -44,11 +47,26 @@ fn refuse(text: &mut Vec<u8>, number: Refusal) {
 }
 
 fn write_working(text: &mut Vec<u8>, number: u32, cycle: u32, working: &Working) {
-    let Working { shift, rounds, access_total, blocked, .. } = working;
-    print(text, format_args!("card {number} cycle {cycle} shift {shift} rounds {rounds}\n"));
+    let Working {
+        shift,
+        rounds,
+        access_total,
+        blocked,
+        ..
+    } = working;
+    print(
+        text,
+        format_args!("card {number} cycle {cycle} shift {shift} rounds {rounds}\n"),
+    );
     for (name, exit) in ['l', 't', 'r'].iter().zip(&working.exits) {
         let (total, green, permille) = (exit.total, exit.green, exit.permille);
-        print(text, format_args!("exit {name} total {total} green {green} permille {permille}\n"));
+        print(
+            text,
+            format_args!("exit {name} total {total} green {green} permille {permille}\n"),
+        );
     }
-    print(text, format_args!("exit a total {access_total}\nblocked {blocked} of {cycle}\n"));
+    print(
+        text,
+        format_args!("exit a total {access_total}\nblocked {blocked} of {cycle}\n"),
+    );
 }

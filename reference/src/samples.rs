@@ -76,7 +76,7 @@ pub fn busy(cycle: u32) -> Card {
 /// A random record in range.
 pub fn random_card(random: &mut Random, cycle: u32) -> Card {
     let mut card = quiet(cycle);
-    put_u32(&mut card, NUMBER_AT, random.next() as u32);
+    put_u32(&mut card, NUMBER_AT, random.draw() as u32);
     let running_time = random.with_ends(1000, 300_000);
     put_u32(&mut card, RUNNING_TIME_AT, running_time);
     put_u16(&mut card, HEADWAY_AT, random.with_ends(1000, 10000));
@@ -84,7 +84,11 @@ pub fn random_card(random: &mut Random, cycle: u32) -> Card {
         let entry = random_entry(random, cycle);
         put_entry(&mut card, i, entry);
     }
-    let access = if random.one_in(4) { 0 } else { random.with_ends(1, 1500) };
+    let access = if random.one_in(4) {
+        0
+    } else {
+        random.with_ends(1, 1500)
+    };
     put_u16(&mut card, ACCESS_AT, access);
     let green = |r: &mut Random| (r.with_ends(0, cycle - 1), r.with_ends(0, cycle));
     put_downstream(&mut card, [green(random), green(random), green(random)]);
@@ -140,7 +144,9 @@ fn random_exits(random: &mut Random, card: &Card) -> [u32; 4] {
     }
     let mut exits = [0; 4];
     for (j, exit) in exits.iter_mut().enumerate() {
-        let likely: u32 = (0..4).map(|i| volumes[i] * u32::from(record.seeds[i][j])).sum();
+        let likely: u32 = (0..4)
+            .map(|i| volumes[i] * u32::from(record.seeds[i][j]))
+            .sum();
         *exit = (likely / 100 * random.between(70, 140) / 100).min(12000);
     }
     exits

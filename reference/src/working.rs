@@ -30,7 +30,10 @@ pub struct Refused {
 
 impl From<Refusal> for Refused {
     fn from(number: Refusal) -> Refused {
-        Refused { number, last_sum: 0.0 }
+        Refused {
+            number,
+            last_sum: 0.0,
+        }
     }
 }
 
@@ -47,7 +50,10 @@ fn decide(record: &Record) -> Result<Decision, Refused> {
     check_volumes(&volumes, &record.exits, &record.seeds)?;
     let balanced = balance(&volumes, &record.exits, &record.seeds, ROUND_LIMIT);
     match balanced.outcome {
-        Outcome::Unsettled(last_sum) => Err(Refused { number: refusal::UNSETTLED, last_sum }),
+        Outcome::Unsettled(last_sum) => Err(Refused {
+            number: refusal::UNSETTLED,
+            last_sum,
+        }),
         Outcome::Settled(last_sum) => Ok(Decision {
             volumes,
             rounds: balanced.rounds,
@@ -95,7 +101,13 @@ pub fn work(
     }
     let decision = decide(&record)?;
     let output = &mut output[..4 * cycle];
-    fill(&record, &decision, output, &mut first[..cycle], &mut second[..cycle]);
+    fill(
+        &record,
+        &decision,
+        output,
+        &mut first[..cycle],
+        &mut second[..cycle],
+    );
     Ok(figures(&record, &decision, output))
 }
 

@@ -14,10 +14,10 @@ use Rattle.lists.specs.Lists.{tab-length}
 use Rattle.signal.specs.Landing.{landed, landing}
 use Rattle.segment.specs.declared.Entry.{Entry}
 use Rattle.segment.specs.declared.Segment.{Segment}
-use Rattle.segment.specs.declared.Checked.{Checked}
-use Rattle.segment.specs.declared.Checked.the-variants.{Refused, Valid}
-use Rattle.segment.specs.Segment.{checkOf, checkedOf}
-use Rattle.segment.specs.Ranges.{EntryRanges, Ranges, accepted}
+use Rattle.validation.specs.declared.Checked.{Checked}
+use Rattle.validation.specs.declared.Checked.the-variants.{Refused, Valid}
+use Rattle.validation.specs.Validation.{checkOf, checkedOf}
+use Rattle.validation.specs.Ranges.{EntryRanges, Ranges, accepted}
 use Rattle.metering.specs.Metering.{discharged, discharged-volume}
 use Rattle.platoon.specs.Discharge.{profileOf, greenFlows, queueOf}
 use Rattle.discharge.specs.declared.Discharged.{Discharged}
@@ -54,10 +54,10 @@ module _ (l : List ℕ) (room : ℕ) where
       go : (x : Or Segment) → checkOf l ≡ x → andThen x (λ t. need 16 (leb (3 * t .cycle) room) (ok t)) ≡ ok s → Ranges s × (3 * s .cycle ≤ room)
       go (refused n) q f = let z : _≡_ {A = ℕ} 0 1 = cc in absurd (omega arith)
       go (ok t) q f =
-        let r = need-rest 16 (leb (3 * t .cycle) room) (ok t) s f in
-        let same : t ≡ s = cc in
-        let k = leb-true (3 * t .cycle) room (need-passed 16 (leb (3 * t .cycle) room) (ok t) s f) in
-        (accepted l s (q ∙ ap (λ (u : Segment). ok u) same) .ranges, (rw same at k))
+          let r = need-rest 16 (leb (3 * t .cycle) room) (ok t) s f in
+          let same : t ≡ s = cc in
+          let k = leb-true (3 * t .cycle) room (need-passed 16 (leb (3 * t .cycle) room) (ok t) s f) in
+          (accepted l s (q ∙ ap (λ (u : Segment). ok u) same) .ranges, (rw same at k))
 
 pub entry-length : (c : ℕ) (e : Entry) → length (entryProfile c e) ≡ c
 unfolding entryProfile profileOf landed
@@ -76,7 +76,6 @@ module _ (c : ℕ) (p y1 y2 y3 : List ℕ) (l1 : length y1 ≡ c) (l2 : length y
   after-two = take c after-one ++ (y2 ++ drop (c + c - c) (drop c after-one))
 
   two-runs : after-two ≡ (y1 ++ y2) ++ drop (c + c) p
-
   two-runs =
       let e : c + c - c ≡ c = omega arith in
       rw (take-at y1 (drop (c - 0) p) c l1, drop-at y1 (drop (c - 0) p) c l1, sub-zero, e, drop-drop, append-assoc)
@@ -93,7 +92,7 @@ pub all-written : (s : Segment) (p y1 y2 y3 : List ℕ) → y1 ≡ entryProfile 
     y3 ≡ entryProfile (s .cycle) (s .right) →
     take (s .cycle + s .cycle) (take (s .cycle) (y1 ++ drop (s .cycle - 0) p) ++ (y2 ++ drop (s .cycle + s .cycle - s .cycle) (drop (s .cycle) (y1 ++ drop (s .cycle - 0) p))))
     ++ (y3 ++ drop (s .cycle + s .cycle + s .cycle - (s .cycle + s .cycle))
-      (drop (s .cycle + s .cycle) (take (s .cycle) (y1 ++ drop (s .cycle - 0) p) ++ (y2 ++ drop (s .cycle + s .cycle - s .cycle) (drop (s .cycle) (y1 ++ drop (s .cycle - 0) p))))))
+    (drop (s .cycle + s .cycle) (take (s .cycle) (y1 ++ drop (s .cycle - 0) p) ++ (y2 ++ drop (s .cycle + s .cycle - s .cycle) (drop (s .cycle) (y1 ++ drop (s .cycle - 0) p))))))
     ≡ written s p
 unfolding written
 all-written s p y1 y2 y3 e1 e2 e3 =

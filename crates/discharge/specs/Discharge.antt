@@ -7,7 +7,7 @@ use lib.ListN.{length, drop}
 use Rattle.refusal.specs.Refusal.{Or, refused, ok, need, andThen}
 use Rattle.segment.specs.declared.Entry.{Entry}
 use Rattle.segment.specs.declared.Segment.{Segment}
-use Rattle.segment.specs.Segment.{checkOf}
+use Rattle.validation.specs.Validation.{checkOf}
 use Rattle.metering.specs.Metering.{discharged}
 use Rattle.platoon.specs.Discharge.{profileOf}
 use Rattle.discharge.specs.declared.Discharged.{Discharged}

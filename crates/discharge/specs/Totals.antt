@@ -7,8 +7,8 @@ use Rattle.refusal.specs.Refusal.{ok}
 use Rattle.lists.specs.Lists.{sum}
 use Rattle.segment.specs.declared.Entry.{Entry}
 use Rattle.segment.specs.declared.Segment.{Segment}
-use Rattle.segment.specs.Segment.{checkOf}
-use Rattle.segment.specs.Ranges.{EntryRanges, Ranges, accepted}
+use Rattle.validation.specs.Validation.{checkOf}
+use Rattle.validation.specs.Ranges.{EntryRanges, Ranges, accepted}
 use Rattle.metering.specs.Metering.{discharged, discharged-served}
 use Rattle.platoon.specs.Discharge.{carried}
 use Rattle.platoon.specs.Conserved.{profile-sum}
@@ -30,5 +30,5 @@ cycles-add l s e =
     record {
       left = entry-adds (s .cycle) (s .left) (r .cycle .0) (r .left);
       through = entry-adds (s .cycle) (s .through) (r .cycle .0) (r .through);
-      right = entry-adds (s .cycle) (s .right) (r .cycle .0) (r .right)
+      right = entry-adds (s .cycle) (s .right) (r .cycle .0) (r .right);
     }

@@ -2,14 +2,13 @@
 ghost use mathlib.Core.Path.{_≡_};
 ghost use Prim.Native.Nat.{_*_, _≤_};
 ghost use lib.ListN.{length};
-ghost use Rattle.segment.specs.Ranges.{EntryRanges, Ranges};
-ghost use Rattle.segment.specs.Segment.{checkedOf};
+ghost use Rattle.validation.specs.Ranges.{EntryRanges, Ranges};
+ghost use Rattle.validation.specs.Validation.{checkedOf};
 ghost use Rattle.metering.specs.Metering.{discharged as dischargedOf};
 ghost use Rattle.discharge.specs.Discharge.{Calls, acceptOf, entryProfile, written};
-
-use segment::Checked;
 use segment::Entry;
 use segment::Segment;
+use validation::Checked;
 
 // The paper's number, or the three entries' discharge volumes in veh/h.
 pub enum Discharged {
@@ -21,7 +20,7 @@ pub enum Discharged {
 fn accept(bytes: &[u8], room: usize) -> Checked
     ensures { λ r. ⌜ r ≡ checkedOf (acceptOf (now (bytes .entry)) room) ⌝ }
 {
-    let checked = segment::check(bytes);
+    let checked = validation::check(bytes);
     match checked {
         Checked::Refused(n) => Checked::Refused(n),
         Checked::Valid(s) => {

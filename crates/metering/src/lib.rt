@@ -2,7 +2,7 @@
 ghost use mathlib.Core.Path.{_≡_};
 ghost use Prim.Native.Nat.{_≤_, _<_};
 ghost use Rattle.metering.specs.Metering.{capacity as capacityOf, discharged as dischargedOf, dischargesOf};
-ghost use Rattle.segment.specs.Ranges.{Ranges};
+ghost use Rattle.validation.specs.Ranges.{Ranges};
 use movements::Counts;
 use segment::Entry;
 use segment::Segment;

@@ -1,9 +1,9 @@
-// The segment record (the paper's card): decoded by value, or refused by number.
+// The segment record (the paper's card): its layout, and the record decoded by value.
 ghost use mathlib.Core.Path.{_≡_};
 ghost use Prim.Native.Nat.{_+_, _≤_};
 ghost use lib.ListN.{length};
 ghost use Rattle.segment.specs.Layout.{entryOf, greenOf, greensOf, rowOf, size, tableOf, volumesOf};
-ghost use Rattle.segment.specs.Segment.{checkOf, checkedOf, cycleFits, entryFits, exitsFit, greenFits, greensFit, headwayFits, rowAdds, runningFits, seedsAdd, seedsOf, segmentOf, volumesFit, zeroRow, zeroSeeds};
+ghost use Rattle.segment.specs.Segment.{seedsOf, segmentOf, zeroRow, zeroSeeds};
 use movements::Counts;
 use movements::Seeds;
 use octets::byte_at;
@@ -12,7 +12,7 @@ use octets::word4_at;
 use signal::Green;
 use signal::Post;
 
-const SIZE: usize = 68;
+pub const SIZE: usize = 68;
 
 const CYCLE_AT: usize = 4;
 
@@ -64,12 +64,6 @@ pub struct Segment {
     pub exits: Counts,
     pub downstream: Greens,
     pub seeds: Seeds,
-}
-
-// A record's answer: the paper's number, or the segment.
-pub enum Checked {
-    Refused(u32),
-    Valid(Segment),
 }
 
 fn green_at(bytes: &[u8], at: usize) -> Green
@@ -165,7 +159,8 @@ fn seeds_of(bytes: &[u8]) -> Seeds
     own
 }
 
-fn segment_of(bytes: &[u8]) -> Segment
+// The record of 68 bytes, whatever they hold.
+pub fn segment_of(bytes: &[u8]) -> Segment
     requires { ⌜ length (now bytes) ≡ size ⌝ }
     ensures { λ r. ⌜ r ≡ segmentOf (now (bytes .entry)) ⌝ }
 {
@@ -183,101 +178,3 @@ fn segment_of(bytes: &[u8]) -> Segment
     }
 }
 
-fn cycle_fits(s: Segment) -> bool
-    ensures { λ b. ⌜ b ≡ cycleFits s ⌝ }
-{
-    (30 <= s.cycle) & (s.cycle <= 240)
-}
-
-fn running_fits(s: Segment) -> bool
-    ensures { λ b. ⌜ b ≡ runningFits s ⌝ }
-{
-    (1000 <= s.running) & (s.running <= 300000)
-}
-
-fn headway_fits(s: Segment) -> bool
-    ensures { λ b. ⌜ b ≡ headwayFits s ⌝ }
-{
-    (1000 <= s.headway) & (s.headway <= 10000)
-}
-
-fn entry_fits(e: Entry) -> bool
-    ensures { λ b. ⌜ b ≡ entryFits e ⌝ }
-{
-    (e.volume <= 6000) & (e.saturation <= 12000) & (e.arriving <= 1000)
-}
-
-fn exits_fit(v: Counts) -> bool
-    ensures { λ b. ⌜ b ≡ exitsFit v ⌝ }
-{
-    (v.left <= 12000) & (v.through <= 12000) & (v.right <= 12000) & (v.access <= 12000)
-}
-
-fn volumes_fit(s: Segment) -> bool
-    ensures { λ b. ⌜ b ≡ volumesFit s ⌝ }
-{
-    entry_fits(s.left)
-        & entry_fits(s.through)
-        & entry_fits(s.right)
-        & (s.access <= 6000)
-        & exits_fit(s.exits)
-}
-
-fn green_fits(c: u32, g: Green) -> bool
-    ensures { λ b. ⌜ b ≡ greenFits c g ⌝ }
-{
-    (g.start.0 < c) & (g.steps <= c)
-}
-
-fn greens_fit(s: Segment) -> bool
-    ensures { λ b. ⌜ b ≡ greensFit s ⌝ }
-{
-    green_fits(s.cycle, s.left.green)
-        & green_fits(s.cycle, s.through.green)
-        & green_fits(s.cycle, s.right.green)
-        & green_fits(s.cycle, s.downstream.left)
-        & green_fits(s.cycle, s.downstream.through)
-        & green_fits(s.cycle, s.downstream.right)
-}
-
-// Four bytes can add to 1020, so the row is added wide.
-fn row_adds(r: Counts) -> bool
-    ensures { λ b. ⌜ b ≡ rowAdds r ⌝ }
-{
-    (r.left as u64) + (r.through as u64) + (r.right as u64) + (r.access as u64) == 100
-}
-
-fn seeds_add(s: Seeds) -> bool
-    ensures { λ b. ⌜ b ≡ seedsAdd s ⌝ }
-{
-    row_adds(s.left) & row_adds(s.through) & row_adds(s.right) & row_adds(s.access)
-}
-
-// The bytes, or the lowest of the refusals 6 to 12 that it meets.
-pub fn check(bytes: &[u8]) -> Checked
-    ensures { λ r. ⌜ r ≡ checkedOf (checkOf (now (bytes .entry))) ⌝ }
-{
-    if bytes.len() != SIZE {
-        return Checked::Refused(6);
-    }
-    let s = segment_of(bytes);
-    if !cycle_fits(s) {
-        return Checked::Refused(7);
-    }
-    if !running_fits(s) {
-        return Checked::Refused(8);
-    }
-    if !headway_fits(s) {
-        return Checked::Refused(9);
-    }
-    if !volumes_fit(s) {
-        return Checked::Refused(10);
-    }
-    if !greens_fit(s) {
-        return Checked::Refused(11);
-    }
-    if !seeds_add(s.seeds) {
-        return Checked::Refused(12);
-    }
-    Checked::Valid(s)
-}

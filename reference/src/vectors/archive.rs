@@ -59,7 +59,9 @@ fn card(random: &mut Random, number: u32) -> Card {
 }
 
 fn good_title(random: &mut Random, length: usize) -> Vec<u8> {
-    (0..length).map(|_| random.with_ends(32, 126) as u8).collect()
+    (0..length)
+        .map(|_| random.with_ends(32, 126) as u8)
+        .collect()
 }
 
 /// Records with these numbers and titles of some bytes.
@@ -131,12 +133,22 @@ fn add_add(file: &mut File, archive: &[u8], card: &[u8], title: &[u8], room: usi
 /// Empty, one, some and many records; first, middle, last and absent numbers.
 fn add_good(file: &mut File, random: &mut Random) {
     let many: Vec<u32> = (1..40).map(|n| n * n).collect();
-    let lists: [&[u32]; 7] =
-        [&[], &[1], &[u32::MAX], &[1, 2], &[7, 256, 65536, 16777216], &[1, u32::MAX], &many];
+    let lists: [&[u32]; 7] = [
+        &[],
+        &[1],
+        &[u32::MAX],
+        &[1, 2],
+        &[7, 256, 65536, 16777216],
+        &[1, u32::MAX],
+        &many,
+    ];
     for numbers in lists {
         let archive = write(&filed(random, numbers));
         add_read(file, &archive);
-        let near = numbers.iter().flat_map(|&n| [n, n.wrapping_add(1), n - 1]).take(12);
+        let near = numbers
+            .iter()
+            .flat_map(|&n| [n, n.wrapping_add(1), n - 1])
+            .take(12);
         for number in near.chain(numbers.last().copied()).chain([0, u32::MAX]) {
             add_find(file, &archive, number);
         }
@@ -169,10 +181,13 @@ fn add_titles(file: &mut File, random: &mut Random) {
 
 /// Archives of 511 and 512 records.
 fn add_full(file: &mut File, random: &mut Random) {
-    let untitled: Vec<Filed> =
-        (1..=COUNT_MOST as u32).map(|n| (card(random, 3 * n), Vec::new())).collect();
-    let titled: Vec<Filed> =
-        untitled.iter().map(|(card, _)| (*card, good_title(random, TITLE_MOST))).collect();
+    let untitled: Vec<Filed> = (1..=COUNT_MOST as u32)
+        .map(|n| (card(random, 3 * n), Vec::new()))
+        .collect();
+    let titled: Vec<Filed> = untitled
+        .iter()
+        .map(|(card, _)| (*card, good_title(random, TITLE_MOST)))
+        .collect();
     let full = write(&untitled);
     add_read(file, &write(&titled));
     add_read(file, &full);
@@ -183,8 +198,16 @@ fn add_full(file: &mut File, random: &mut Random) {
     add_add(file, &full, &new, b"", full.len() + 71);
     add_add(file, &full, &new, b"", full.len() + 70);
     add_add(file, &full, &untitled[0].0, b"", 0);
+    add_add(file, &full, &new, &[127], 0);
+    add_add(file, &full, &new[..67], b"", 0);
     let nearly = write(&untitled[..COUNT_MOST - 1]);
-    add_add(file, &nearly, &untitled[COUNT_MOST - 1].0, b"last", nearly.len() + 75);
+    add_add(
+        file,
+        &nearly,
+        &untitled[COUNT_MOST - 1].0,
+        b"last",
+        nearly.len() + 75,
+    );
     let mut over = untitled;
     over.push((new, Vec::new()));
     add_read(file, &write(&over));
@@ -199,8 +222,18 @@ fn add_bad_ends(file: &mut File, random: &mut Random) {
     let good = write(&records);
     let at = good.len() - 6;
     let changes: [(usize, &[u8]); 12] = [
-        (4, &[69]), (4, &[82]), (5, &[83]), (5, &[68]), (4, &[82, 68]), (0, &[2]), (0, &[4]),
-        (0, &[1, 2]), (0, &[3, 1]), (2, &[0]), (3, &[1]), (0, &[255, 255, 255, 255]),
+        (4, &[69]),
+        (4, &[82]),
+        (5, &[83]),
+        (5, &[68]),
+        (4, &[82, 68]),
+        (0, &[2]),
+        (0, &[4]),
+        (0, &[1, 2]),
+        (0, &[3, 1]),
+        (2, &[0]),
+        (3, &[1]),
+        (0, &[255, 255, 255, 255]),
     ];
     for (offset, bytes) in changes {
         let mut archive = good.clone();
@@ -222,11 +255,17 @@ fn add_bad_ends(file: &mut File, random: &mut Random) {
 /// Refusals 3, 4 and 5, alone and two or three at once.
 fn add_bad_bodies(file: &mut File, random: &mut Random) {
     let mut records = filed(random, &[10, 20, 30]);
-    records.iter_mut().for_each(|(_, title)| *title = b"ab".to_vec());
+    records
+        .iter_mut()
+        .for_each(|(_, title)| *title = b"ab".to_vec());
     type Change = fn(&mut Vec<Filed>);
     let threes: [Change; 3] = [|r| r[2].1 = vec![32; 41], |r| r[0].1 = vec![32; 41], |_| ()];
-    let fours: [Change; 4] =
-        [|r| r[0].1[1] = 31, |r| r[2].1[0] = 127, |r| r[1].1 = vec![200; 40], |_| ()];
+    let fours: [Change; 4] = [
+        |r| r[0].1[1] = 31,
+        |r| r[2].1[0] = 127,
+        |r| r[1].1 = vec![200; 40],
+        |_| (),
+    ];
     let fives: [Change; 5] = [
         |r| put_u32(&mut r[0].0, 0, 0),
         |r| put_u32(&mut r[1].0, 0, 10),
@@ -238,7 +277,9 @@ fn add_bad_bodies(file: &mut File, random: &mut Random) {
         for four in fours {
             for five in fives {
                 let mut changed = records.clone();
-                [five, four, three].iter().for_each(|change| change(&mut changed));
+                [five, four, three]
+                    .iter()
+                    .for_each(|change| change(&mut changed));
                 let archive = write(&changed);
                 add_read(file, &archive);
                 add_find(file, &archive, 20);
@@ -256,7 +297,14 @@ fn add_misplaced(file: &mut File, good: &[u8]) {
         body
     };
     let places = |places: [u16; 3]| places.map(u16::to_le_bytes).concat();
-    for at in [[0, 71, 141], [0, 71, 143], [1, 71, 142], [0, 142, 71], [71, 142, 0], [0, 0, 0]] {
+    for at in [
+        [0, 71, 141],
+        [0, 71, 143],
+        [1, 71, 142],
+        [0, 142, 71],
+        [71, 142, 0],
+        [0, 0, 0],
+    ] {
         add_read(file, &end(body(213), &places(at), 3));
     }
     for length in [212, 214, 141, 142, 0] {
@@ -343,7 +391,13 @@ fn add_refused_additions(file: &mut File, random: &mut Random) {
     put_u32(&mut number, 0, 7);
     let mut places = good.clone();
     places[68] = 200;
-    let archives = [&good[..], &good[1..], &good[..good.len() - 1], &number, &places];
+    let archives = [
+        &good[..],
+        &good[1..],
+        &good[..good.len() - 1],
+        &number,
+        &places,
+    ];
     let new = card(random, 7);
     let low = card(random, 6);
     let long = [&new[..], &[0]].concat();
@@ -351,7 +405,10 @@ fn add_refused_additions(file: &mut File, random: &mut Random) {
     for archive in archives {
         for card in [&new[..], &new[..67], &long, &[], &low] {
             for title in &titles {
-                for room in [archive.len() + 71 + title.len(), archive.len() + 70 + title.len()] {
+                for room in [
+                    archive.len() + 71 + title.len(),
+                    archive.len() + 70 + title.len(),
+                ] {
                     add_add(file, archive, card, title, room);
                 }
             }

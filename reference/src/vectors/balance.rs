@@ -21,9 +21,15 @@ pub fn file() -> File {
     let mut file = File::default();
     add_figures(&mut file);
     add_refused(&mut file);
-    BY_ROUNDS.iter().for_each(|(_, inputs)| add(&mut file, inputs));
-    BY_STOP.iter().for_each(|(_, _, inputs)| add(&mut file, inputs));
-    order_cases().iter().for_each(|(_, inputs)| add(&mut file, inputs));
+    BY_ROUNDS
+        .iter()
+        .for_each(|(_, inputs)| add(&mut file, inputs));
+    BY_STOP
+        .iter()
+        .for_each(|(_, _, inputs)| add(&mut file, inputs));
+    order_cases()
+        .iter()
+        .for_each(|(_, inputs)| add(&mut file, inputs));
     add_extremes(&mut file);
     add_random(&mut file);
     let wrong = ([200, 700, 150, 120], [150, 800, 200, 20], DEFAULT_SEEDS);
@@ -53,7 +59,11 @@ fn case(inputs: &Inputs, off: u32) -> (u32, Body) {
         None => (NOT_RUN, 0.0),
     };
     let cells = balance.map_or([[0.0; 4]; 4], |balance| balance.cells);
-    let mut flows = if number == 0 { pair_flows(discharge, &cells) } else { [[0; 4]; 4] };
+    let mut flows = if number == 0 {
+        pair_flows(discharge, &cells)
+    } else {
+        [[0; 4]; 4]
+    };
     flows[ACCESS][ACCESS] += off;
     let mut body = Body::default();
     body.words(discharge);
@@ -69,7 +79,10 @@ fn case(inputs: &Inputs, off: u32) -> (u32, Body) {
 }
 
 fn add(file: &mut File, inputs: &Inputs) {
-    assert!(inputs.2.iter().all(|row| row.iter().map(|&s| u32::from(s)).sum::<u32>() == 100));
+    assert!(inputs
+        .2
+        .iter()
+        .all(|row| row.iter().map(|&s| u32::from(s)).sum::<u32>() == 100));
     let (number, body) = case(inputs, 0);
     file.push(format!("{number}"), body);
 }
@@ -133,9 +146,28 @@ fn unserved_exit(exit: usize) -> Seeds {
 
 /// The least and the most that a record can hold.
 fn add_extremes(file: &mut File) {
-    let volumes = [[6000; 4], [1; 4], [6000, 1, 1, 6000], [1, 6000, 6000, 1], [0, 6000, 0, 0]];
-    let exits = [[12000; 4], [1; 4], [12000, 1, 1, 12000], [1, 12000, 12000, 0], [0, 12000, 0, 0]];
-    let rows = [[25; 4], [100, 0, 0, 0], [0, 100, 0, 0], [1, 97, 1, 1], [97, 1, 1, 1], [0, 50, 50, 0]];
+    let volumes = [
+        [6000; 4],
+        [1; 4],
+        [6000, 1, 1, 6000],
+        [1, 6000, 6000, 1],
+        [0, 6000, 0, 0],
+    ];
+    let exits = [
+        [12000; 4],
+        [1; 4],
+        [12000, 1, 1, 12000],
+        [1, 12000, 12000, 0],
+        [0, 12000, 0, 0],
+    ];
+    let rows = [
+        [25; 4],
+        [100, 0, 0, 0],
+        [0, 100, 0, 0],
+        [1, 97, 1, 1],
+        [97, 1, 1, 1],
+        [0, 50, 50, 0],
+    ];
     for discharge in volumes {
         for exit in exits {
             add(file, &(discharge, exit, DEFAULT_SEEDS));
@@ -170,13 +202,32 @@ pub fn tells_apart(order: Order, (discharge, exits, seeds): &Inputs) -> bool {
 
 /// Inputs whose cells are whole in exact numbers, so that a last bit moves a whole part.
 fn exact_inputs(random: &mut Random) -> Inputs {
-    let seeds = if random.one_in(4) { DEFAULT_SEEDS } else { [(); 4].map(|_| random_row(random)) };
-    let parts = [(); 4].map(|_| if random.one_in(4) { 0 } else { random.between(1, 20) });
-    let exits = [0, 1, 2, 3].map(|j| (0..4).map(|i| parts[i] * u32::from(seeds[i][j])).sum::<u32>());
+    let seeds = if random.one_in(4) {
+        DEFAULT_SEEDS
+    } else {
+        [(); 4].map(|_| random_row(random))
+    };
+    let size = random.pick(&[2, 5, 20]);
+    let parts = [(); 4].map(|_| {
+        if random.one_in(4) {
+            0
+        } else {
+            random.between(1, size)
+        }
+    });
+    let exits = [0, 1, 2, 3].map(|j| {
+        (0..4)
+            .map(|i| parts[i] * u32::from(seeds[i][j]))
+            .sum::<u32>()
+    });
     let most = exits.into_iter().fold(1, u32::max);
-    let entry_times = random.between(1, 3);
-    let exit_times = random.between(1, (12000 / most).clamp(1, 7));
-    (parts.map(|part| 100 * part * entry_times), exits.map(|exit| exit * exit_times), seeds)
+    let entry_times = random.between(1, 60 / size);
+    let exit_times = random.between(1, 12000 / most);
+    (
+        parts.map(|part| 100 * part * entry_times),
+        exits.map(|exit| exit * exit_times),
+        seeds,
+    )
 }
 
 fn random_volume(random: &mut Random, most: u32) -> u32 {
@@ -191,12 +242,20 @@ fn random_volume(random: &mut Random, most: u32) -> u32 {
 /// Volumes at random, and exit volumes near to what the seeds give.
 fn add_random(file: &mut File) {
     let mut random = Random::new(SEED + 1);
-    for n in 0..360 {
-        let seeds = if n % 3 == 0 { DEFAULT_SEEDS } else { [(); 4].map(|_| random_row(&mut random)) };
+    for n in 0..720 {
+        let seeds = if n % 3 == 0 {
+            DEFAULT_SEEDS
+        } else {
+            [(); 4].map(|_| random_row(&mut random))
+        };
         let discharge = [(); 4].map(|_| random_volume(&mut random, 6000));
         let mut exits = [(); 4].map(|_| random_volume(&mut random, 12000));
         if n % 2 == 0 {
-            let likely = |j: usize| (0..4).map(|i| discharge[i] * u32::from(seeds[i][j])).sum::<u32>();
+            let likely = |j: usize| {
+                (0..4)
+                    .map(|i| discharge[i] * u32::from(seeds[i][j]))
+                    .sum::<u32>()
+            };
             exits = [0, 1, 2, 3].map(|j| likely(j) / 100 * random.between(60, 160) / 100);
             exits[THROUGH] += 1;
         }

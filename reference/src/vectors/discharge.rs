@@ -83,7 +83,9 @@ fn add_range_ends(file: &mut File) {
         }
     }
     for value in [1000, 300_000] {
-        add_changed(file, CYCLE_LEAST, |card| put_u32(card, RUNNING_TIME_AT, value));
+        add_changed(file, CYCLE_LEAST, |card| {
+            put_u32(card, RUNNING_TIME_AT, value)
+        });
     }
     for value in [1000, 10000] {
         add_changed(file, CYCLE_LEAST, |card| put_u16(card, HEADWAY_AT, value));
@@ -121,9 +123,17 @@ fn add_greens(file: &mut File) {
     let cycle = CYCLE_LEAST;
     for start in 0..cycle {
         let mut card = quiet(cycle);
-        put_entry(&mut card, 0, [900, 1900, start, start * 7 % 31, 40 * (start % 26)]);
+        put_entry(
+            &mut card,
+            0,
+            [900, 1900, start, start * 7 % 31, 40 * (start % 26)],
+        );
         put_entry(&mut card, 1, [400, 1800, start, cycle - start, 500]);
-        put_entry(&mut card, 2, [333, 1777, start, (cycle - start + 1).min(cycle), 1000]);
+        put_entry(
+            &mut card,
+            2,
+            [333, 1777, start, (cycle - start + 1).min(cycle), 1000],
+        );
         add_full(file, cycle, &card);
     }
     let mut example = quiet(60);
@@ -157,7 +167,14 @@ pub fn refused_by_volume() -> [Card; 6] {
     put_entry(&mut stopped, 1, [3000, 6000, 0, 30, 500]);
     put_u16(&mut stopped, ACCESS_AT, 3000);
     put_exits(&mut stopped, [0, 1, 0, 5999]);
-    [quiet(CYCLE_LEAST), no_exit, exit_unserved, entry_unserved, unsettled, stopped]
+    [
+        quiet(CYCLE_LEAST),
+        no_exit,
+        exit_unserved,
+        entry_unserved,
+        unsettled,
+        stopped,
+    ]
 }
 
 /// Refusals 7 to 12 alone and two at once, with the profile long enough and not.
@@ -194,7 +211,11 @@ fn add_random(file: &mut File) {
             _ => random.between(30, 90),
         };
         let card = random_card(&mut random, cycle);
-        let longer = if n % 5 == 0 { random.below(20) as usize } else { 0 };
+        let longer = if n % 5 == 0 {
+            random.below(20) as usize
+        } else {
+            0
+        };
         add(file, &card, 3 * cycle as usize + longer);
     }
 }

@@ -17,7 +17,11 @@ pub struct Fault {
 
 impl Fault {
     fn new(number: Refusal, at: usize, bytes: &[u8]) -> Fault {
-        Fault { number, at, bytes: bytes.to_vec() }
+        Fault {
+            number,
+            at,
+            bytes: bytes.to_vec(),
+        }
     }
 
     pub fn apply(&self, card: &mut Card) {
@@ -33,7 +37,11 @@ pub fn faults(cycle: u32) -> Vec<Fault> {
         faults.push(short(refusal::CYCLE, CYCLE_AT, value));
     }
     for value in [0u32, 999, 300_001, 40_000 + 5 * 65536, u32::MAX] {
-        faults.push(Fault::new(refusal::RUNNING_TIME, RUNNING_TIME_AT, &value.to_le_bytes()));
+        faults.push(Fault::new(
+            refusal::RUNNING_TIME,
+            RUNNING_TIME_AT,
+            &value.to_le_bytes(),
+        ));
     }
     for value in [0, 999, 10001, u16::MAX] {
         faults.push(short(refusal::HEADWAY, HEADWAY_AT, value));
@@ -68,13 +76,22 @@ pub fn volume_fields() -> Vec<(usize, u16)> {
 /// Offsets of the greens, upstream and downstream.
 pub fn green_fields() -> Vec<usize> {
     let upstream = (0..3).map(|i| ENTRIES_AT + ENTRY_BYTES * i + GREEN_IN);
-    upstream.chain((0..3).map(|j| DOWNSTREAM_AT + 2 * j)).collect()
+    upstream
+        .chain((0..3).map(|j| DOWNSTREAM_AT + 2 * j))
+        .collect()
 }
 
 /// One row of four that does not add to 100 beside three that do; too few seeds.
 fn seed_faults() -> Vec<Fault> {
     let good = [25; 16];
-    let rows = [[25, 25, 25, 24], [25, 26, 25, 25], [0; 4], [89; 4], [255; 4], [100, 0, 0, 255]];
+    let rows = [
+        [25, 25, 25, 24],
+        [25, 26, 25, 25],
+        [0; 4],
+        [89; 4],
+        [255; 4],
+        [100, 0, 0, 255],
+    ];
     let mut faults = Vec::new();
     for i in 0..4 {
         for row in rows {

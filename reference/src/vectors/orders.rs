@@ -77,7 +77,12 @@ fn over(dividend: f64, divisor: f64) -> f64 {
 }
 
 /// The pair flows in this order of operations, if the balance settles.
-pub fn flows(order: Order, discharge: &[u32; 4], exits: &[u32; 4], seeds: &Seeds) -> Option<PairFlows> {
+pub fn flows(
+    order: Order,
+    discharge: &[u32; 4],
+    exits: &[u32; 4],
+    seeds: &Seeds,
+) -> Option<PairFlows> {
     const ALL: [usize; 4] = [0, 1, 2, 3];
     let origins = discharge.map(f64::from);
     let volumes = exits.map(f64::from);

@@ -20,7 +20,11 @@ const REFUSED: Working = Working {
     rounds: 0,
     last_sum: 0.0,
     flows: [[0; 4]; 4],
-    exits: [ExitFigures { total: 0, green: 0, permille: 0 }; 3],
+    exits: [ExitFigures {
+        total: 0,
+        green: 0,
+        permille: 0,
+    }; 3],
     access_total: 0,
     blocked: 0,
 };
@@ -62,7 +66,9 @@ fn case(card: &[u8], lengths: [usize; 3], off: u32) -> (u32, Body) {
     body.word(number);
     body.bits(result.map_or_else(|refused| refused.last_sum, |working| working.last_sum));
     put_working(&mut body, &result.unwrap_or(REFUSED));
-    [output, first, second].iter().for_each(|profile| body.words(profile));
+    [output, first, second]
+        .iter()
+        .for_each(|profile| body.words(profile));
     (number, body)
 }
 
@@ -102,7 +108,9 @@ fn add_lengths(file: &mut File) {
             [output + 50, first, second + 11],
             [output, first + output, second],
         ];
-        lengths.into_iter().for_each(|lengths| add(file, &busy(cycle), lengths));
+        lengths
+            .into_iter()
+            .for_each(|lengths| add(file, &busy(cycle), lengths));
     }
     let long = [busy(30), busy(30)].concat();
     for length in [0, 1, 67, 69, 136] {
@@ -138,20 +146,20 @@ fn more_without_volume() -> [Card; 3] {
     })
 }
 
-/// Refusals 7 to 12 alone and two at once, before 16 and before 13.
+/// Some faults of each number 7 to 12 alone, before 13 and 16, and two at once.
 fn add_faults(file: &mut File) {
     let faults = faults(CYCLE_LEAST);
-    for fault in &faults {
+    for fault in faults.iter().step_by(3) {
         let mut card = busy(CYCLE_LEAST);
         fault.apply(&mut card);
         add(file, &card, exact(CYCLE_LEAST));
     }
-    for fault in faults.iter().step_by(4) {
+    for fault in faults.iter().step_by(7) {
         let mut card = quiet(CYCLE_LEAST);
         fault.apply(&mut card);
         add(file, &card, [120, 29, 30]);
     }
-    for pair in fault_pairs(CYCLE_LEAST).iter().step_by(2) {
+    for pair in fault_pairs(CYCLE_LEAST).iter().step_by(3) {
         let mut card = busy(CYCLE_LEAST);
         pair.iter().for_each(|fault| fault.apply(&mut card));
         add(file, &card, [119, 30, 31]);
@@ -170,7 +178,14 @@ fn add_figures(file: &mut File) {
         put_u32(&mut card, RUNNING_TIME_AT, running_time);
         add(file, &card, exact(CYCLE_LEAST));
     }
-    for (volume, headway) in [(360, 10000), (361, 10000), (3600, 1000), (3601, 1000), (878, 4100), (879, 4100)] {
+    for (volume, headway) in [
+        (360, 10000),
+        (361, 10000),
+        (3600, 1000),
+        (3601, 1000),
+        (878, 4100),
+        (879, 4100),
+    ] {
         let mut card = quiet(CYCLE_LEAST);
         put_u16(&mut card, HEADWAY_AT, headway);
         put_u16(&mut card, ACCESS_AT, volume);
@@ -213,11 +228,18 @@ fn add_extremes(file: &mut File) {
             put_u32(&mut card, RUNNING_TIME_AT, running_time);
             put_u16(&mut card, HEADWAY_AT, 10000);
             for i in 0..3 {
-                put_entry(&mut card, i, [6000, 12000, cycle - 1, cycle, 500 * i as u32]);
+                put_entry(
+                    &mut card,
+                    i,
+                    [6000, 12000, cycle - 1, cycle, 500 * i as u32],
+                );
             }
             put_u16(&mut card, ACCESS_AT, 6000);
             put_exits(&mut card, [12000; 4]);
-            put_downstream(&mut card, [(cycle - 1, cycle), (cycle - 1, 1), (cycle / 2, cycle)]);
+            put_downstream(
+                &mut card,
+                [(cycle - 1, cycle), (cycle - 1, 1), (cycle / 2, cycle)],
+            );
             put_seeds(&mut card, &[[25; 4]; 4]);
             add(file, &card, exact(cycle));
             put_exits(&mut card, [0, 12000, 0, 0]);
@@ -246,7 +268,11 @@ fn add_balances(file: &mut File) {
 fn balance_card((discharge, exits, seeds): &Inputs) -> Card {
     let mut card = quiet(CYCLE_LEAST);
     for i in 0..3u32 {
-        put_entry(&mut card, i as usize, [discharge[i as usize], 12000, 7 * i, 15 + i, 300 * i]);
+        put_entry(
+            &mut card,
+            i as usize,
+            [discharge[i as usize], 12000, 7 * i, 15 + i, 300 * i],
+        );
     }
     put_u16(&mut card, ACCESS_AT, discharge[3]);
     put_exits(&mut card, *exits);

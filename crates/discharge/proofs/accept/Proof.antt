@@ -4,39 +4,28 @@ use Rattle.discharge.proofs.Laws.{accept-refused, accept-short, accept-
 use borrow.Author.Needs.{needs}
 use Rattle.discharge.proofs.accept.Statement.{statement}
 use Rattle.discharge.proofs.accept.Tie as tie
-use Rattle.discharge.proofs.accept.Reads as reads
-use Rattle.discharge.proofs.accept.Lts as lts
-use Rattle.segment.proofs.check.Reads as check-reads
 
--- src/lib.rt:24:9
 check-requires : tie.Need-check-requires
 check-requires c κs = search needs
 
--- src/lib.rt:26:26
 enum-known-checked : tie.Need-enum-known-checked
 enum-known-checked c = search needs
 
--- src/lib.rt:27:24
 enum-known-checked-2 : tie.Need-enum-known-checked-2
 enum-known-checked-2 c = search needs
 
--- src/lib.rt:28:37
 cast-if1 : tie.Need-cast-if1
 cast-if1 c = search needs
 
--- src/lib.rt:28:32
 mul-if1 : tie.Need-mul-if1
 mul-if1 c = search needs
 
--- src/lib.rt:29:17
 returns : tie.Need-returns
 returns c = accept-short _ _ _ (sym (c .before .before .before .before .before .check .ensures) ∙ c .before .before .before .checked2 .given .1) (c .if1 .taken)
 
--- src/lib.rt:21:1
 returns-2 : tie.Need-returns-2
 returns-2 c = accept-refused _ _ _ (sym (c .before .before .before .check .ensures) ∙ c .before .checked .given .1)
 
--- src/lib.rt:21:1
 returns-3 : tie.Need-returns-3
 returns-3 c = accept-valid _ _ _ (sym (c .before .before .before .before .before .check .ensures) ∙ c .before .before .before .checked2 .given .1) (c .if1 .left)
 

@@ -3,36 +3,25 @@ use Rattle.discharge.proofs.Laws.{refuses, asks, writes}
 use borrow.Author.Needs.{needs}
 use Rattle.discharge.proofs.discharge.Statement.{statement}
 use Rattle.discharge.proofs.discharge.Tie as tie
-use Rattle.discharge.proofs.discharge.Reads as reads
-use Rattle.discharge.proofs.discharge.Lts as lts
-use Rattle.discharge.proofs.accept.Reads as accept-reads
-use Rattle.discharge.proofs.write.Reads as write-reads
 
--- src/lib.rt:69:9
 accept-requires : tie.Need-accept-requires
 accept-requires c κs = search needs
 
--- src/lib.rt:71:26
 enum-known-accepted : tie.Need-enum-known-accepted
 enum-known-accepted c = search needs
 
--- src/lib.rt:72:24
 enum-known-accepted-2 : tie.Need-enum-known-accepted-2
 enum-known-accepted-2 c = search needs
 
--- src/lib.rt:72:30
 write-requires : tie.Need-write-requires
 write-requires c κs = asks _ (c .before .before .before .before .before .before .before .args .profile .now) _ (sym (c .before .before .before .before .accept .ensures) ∙ c .before .before .accepted2 .given .1)
 
--- src/lib.rt:66:1
 returns : tie.Need-returns
 returns c = refuses _ _ _ (sym (c .before .before .before .accept .ensures) ∙ c .before .accepted .given .1)
 
--- src/lib.rt:66:1
 same-length : tie.Need-same-length
 same-length c = search needs
 
--- src/lib.rt:66:1
 returns-2 : tie.Need-returns-2
 returns-2 c = writes _ _ _ (sym (c .before .before .before .before .before .before .before .accept .ensures) ∙ c .before .before .before .before .before .accepted2 .given .1) _ _ (c .before .before .write .ensures .0) (c .before .before .write .ensures .1)
 

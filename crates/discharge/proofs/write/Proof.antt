@@ -3,83 +3,61 @@ use Rattle.discharge.proofs.Laws.{all-written}
 use borrow.Author.Needs.{needs}
 use Rattle.discharge.proofs.write.Statement.{statement}
 use Rattle.discharge.proofs.write.Tie as tie
-use Rattle.discharge.proofs.write.Reads as reads
-use Rattle.discharge.proofs.write.Lts as lts
-use Rattle.discharge.proofs.write_entry.Reads as write-entry-reads
 
--- src/lib.rt:52:15
 cast-one : tie.Need-cast-one
 cast-one c = search needs
 
--- src/lib.rt:53:15
 add-two : tie.Need-add-two
 add-two c = search needs
 
--- src/lib.rt:54:17
 add-three : tie.Need-add-three
 add-three c = search needs
 
--- src/lib.rt:55:45
 sub-write-entry : tie.Need-sub-write-entry
 sub-write-entry c = search needs
 
--- src/lib.rt:55:45
 part-write-entry-start : tie.Need-part-write-entry-start
 part-write-entry-start c = search needs
 
--- src/lib.rt:55:45
 part-write-entry-end : tie.Need-part-write-entry-end
 part-write-entry-end c = search needs
 
--- src/lib.rt:55:9
 write-entry-requires : tie.Need-write-entry-requires
 write-entry-requires c κs = search needs
 
--- src/lib.rt:56:51
 mul-write-entry : tie.Need-mul-write-entry
 mul-write-entry c = search needs
 
--- src/lib.rt:56:51
 sub-write-entry-2 : tie.Need-sub-write-entry-2
 sub-write-entry-2 c = search needs
 
--- src/lib.rt:56:51
 part-write-entry-start-2 : tie.Need-part-write-entry-start-2
 part-write-entry-start-2 c = search needs
 
--- src/lib.rt:56:51
 part-write-entry-end-2 : tie.Need-part-write-entry-end-2
 part-write-entry-end-2 c = search needs
 
--- src/lib.rt:56:9
 write-entry-requires-2 : tie.Need-write-entry-requires-2
 write-entry-requires-2 c κs = search needs
 
--- src/lib.rt:57:47
 mul-write-entry-2 : tie.Need-mul-write-entry-2
 mul-write-entry-2 c = search needs
 
--- src/lib.rt:57:47
 sub-write-entry-3 : tie.Need-sub-write-entry-3
 sub-write-entry-3 c = search needs
 
--- src/lib.rt:57:47
 part-write-entry-start-3 : tie.Need-part-write-entry-start-3
 part-write-entry-start-3 c = search needs
 
--- src/lib.rt:57:47
 part-write-entry-end-3 : tie.Need-part-write-entry-end-3
 part-write-entry-end-3 c = search needs
 
--- src/lib.rt:57:9
 write-entry-requires-3 : tie.Need-write-entry-requires-3
 write-entry-requires-3 c κs = search needs
 
--- src/lib.rt:47:1
 same-length : tie.Need-same-length
 same-length c = search needs
 
--- src/lib.rt:47:1
 returns : tie.Need-returns
 returns c = (cc, all-written _ _ _ _ _ (c .before .before .before .before .before .before .before .before .before .before .write-entry .ensures .1) (c .before .before .before .before .before .before .write-entry2 .ensures .1) (c .before .before .write-entry3 .ensures .1))
 

@@ -5,24 +5,16 @@ use Rattle.discharge.proofs.Laws.{entry-asks}
 use borrow.Author.Needs.{needs}
 use Rattle.discharge.proofs.write_entry.Statement.{statement}
 use Rattle.discharge.proofs.write_entry.Tie as tie
-use Rattle.discharge.proofs.write_entry.Reads as reads
-use Rattle.discharge.proofs.write_entry.Lts as lts
-use Rattle.metering.proofs.discharged.Reads as discharged-reads
-use Rattle.platoon.proofs.discharge.Reads as discharge-reads
 
--- src/lib.rt:42:9
 discharged-requires : tie.Need-discharged-requires
 discharged-requires c κs = search needs
 
--- src/lib.rt:43:5
 discharge-requires : tie.Need-discharge-requires
 discharge-requires c κs = let p = c .before .before .before .pre in ((omega arith, rw (p .2) (p .3 .green)), (p .3 .saturation, p .3 .arriving, entry-asks (c .before .before .before .args .c) _ _ (p .3) (c .before .discharged .ensures)))
 
--- src/lib.rt:37:1
 same-length : tie.Need-same-length
 same-length c = search needs
 
--- src/lib.rt:37:1
 returns : tie.Need-returns
 unfolding entryProfile
 returns c = let p = c .before .before .before .before .before .before .pre in (c .before .before .before .before .discharged .ensures, c .before .before .discharge .ensures ∙ rw (p .2, c .before .before .before .before .discharged .ensures))

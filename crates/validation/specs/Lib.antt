@@ -1,0 +1,2 @@
+pub mod Validation
+pub mod Ranges

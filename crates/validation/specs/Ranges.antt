@@ -1,0 +1,127 @@
+-- What the tests of a record say of its fields, as facts.
+use Prim.Native.Nat.{ℕ, _+_, _≤_, _<_}
+use mathlib.Core.Bool.{Bool, true, false, _&&_}
+use mathlib.Core.Path.{_≡_, refl}
+use mathlib.Core.List.{List}
+use lib.Dec.{leb, ltb, eqb}
+use lib.ListN.{length}
+use borrow.Author.Tests.{leb-true, ltb-true, eqb-true}
+use native.Mathlib.Omega.{arith}
+use Rattle.refusal.specs.Refusal.{Or, ok, need, need-passed, need-rest}
+use Rattle.movements.specs.declared.Counts.{Counts}
+use Rattle.movements.specs.declared.Seeds.{Seeds}
+use Rattle.signal.specs.declared.Green.{Green}
+use Rattle.signal.specs.Greens.{Within}
+use Rattle.segment.specs.declared.Entry.{Entry}
+use Rattle.segment.specs.declared.Segment.{Segment}
+use Rattle.segment.specs.Layout.{size}
+use Rattle.segment.specs.Segment.{segmentOf}
+use Rattle.validation.specs.Validation.{cycleFits, runningFits, headwayFits, entryFits, exitsFit, volumesFit, greenFits, greensFit, rowAdds, seedsAdd, checkOf}
+
+pub record EntryRanges (c : ℕ) (e : Entry) : Type 0 where
+  pub volume : e .volume ≤ 6000
+  pub saturation : e .saturation ≤ 12000
+  pub arriving : e .arriving ≤ 1000
+  pub green : Within c (e .green)
+
+pub record Ranges (s : Segment) : Type 0 where
+  pub cycle : (30 ≤ s .cycle) × (s .cycle ≤ 240)
+  pub running : (1000 ≤ s .running) × (s .running ≤ 300000)
+  pub headway : (1000 ≤ s .headway) × (s .headway ≤ 10000)
+  pub left : EntryRanges (s .cycle) (s .left)
+  pub through : EntryRanges (s .cycle) (s .through)
+  pub right : EntryRanges (s .cycle) (s .right)
+  pub access : s .access ≤ 6000
+  pub exits : (s .exits .left ≤ 12000) × (s .exits .through ≤ 12000) × (s .exits .right ≤ 12000) × (s .exits .access ≤ 12000)
+  pub leftGreen : Within (s .cycle) (s .downstream .left)
+  pub throughGreen : Within (s .cycle) (s .downstream .through)
+  pub rightGreen : Within (s .cycle) (s .downstream .right)
+  pub seeds : seedsAdd (s .seeds) ≡ true
+
+both : (a b : Bool) → (a && b) ≡ true → (a ≡ true) × (b ≡ true)
+both true b e = (refl, e)
+both false b e = let z : _≡_ {A = ℕ} 0 1 = cc in absurd (omega arith)
+
+within : (low n high : ℕ) → (leb low n && leb n high) ≡ true → (low ≤ n) × (n ≤ high)
+within low n high e = let b = both (leb low n) (leb n high) e in (leb-true low n (b .0), leb-true n high (b .1))
+
+green-range : (c : ℕ) (g : Green) → greenFits c g ≡ true → Within c g
+green-range c g e =
+    let b = both (ltb (g .start .0) c) (leb (g .steps) c) e in
+    record { start = ltb-true (g .start .0) c (b .0); steps = leb-true (g .steps) c (b .1) }
+
+entry-range : (c : ℕ) (e : Entry) → entryFits e ≡ true → greenFits c (e .green) ≡ true → EntryRanges c e
+entry-range c e h g =
+    let b = both (leb (e .volume) 6000 && leb (e .saturation) 12000) (leb (e .arriving) 1000) h in
+    let a = both (leb (e .volume) 6000) (leb (e .saturation) 12000) (b .0) in
+    record {
+      volume = leb-true (e .volume) 6000 (a .0);
+      saturation = leb-true (e .saturation) 12000 (a .1);
+      arriving = leb-true (e .arriving) 1000 (b .1);
+      green = green-range c (e .green) g;
+    }
+
+exits-range : (v : Counts) → exitsFit v ≡ true → (v .left ≤ 12000) × (v .through ≤ 12000) × (v .right ≤ 12000) × (v .access ≤ 12000)
+exits-range v h =
+    let a = both (leb (v .left) 12000 && leb (v .through) 12000 && leb (v .right) 12000) (leb (v .access) 12000) h in
+    let r = both (leb (v .left) 12000 && leb (v .through) 12000) (leb (v .right) 12000) (a .0) in
+    let t = both (leb (v .left) 12000) (leb (v .through) 12000) (r .0) in
+    (leb-true (v .left) 12000 (t .0), leb-true (v .through) 12000 (t .1), leb-true (v .right) 12000 (r .1), leb-true (v .access) 12000 (a .1))
+
+pub tests-ranges : (s : Segment) → cycleFits s ≡ true → runningFits s ≡ true → headwayFits s ≡ true → volumesFit s ≡ true → greensFit s ≡ true →
+    seedsAdd (s .seeds) ≡ true → Ranges s
+unfolding cycleFits runningFits headwayFits volumesFit greensFit
+tests-ranges s h7 h8 h9 h10 h11 h12 =
+    let c = s .cycle in
+    let v5 = both (entryFits (s .left) && entryFits (s .through) && entryFits (s .right) && leb (s .access) 6000) (exitsFit (s .exits)) h10 in
+    let v4 = both (entryFits (s .left) && entryFits (s .through) && entryFits (s .right)) (leb (s .access) 6000) (v5 .0) in
+    let v3 = both (entryFits (s .left) && entryFits (s .through)) (entryFits (s .right)) (v4 .0) in
+    let v2 = both (entryFits (s .left)) (entryFits (s .through)) (v3 .0) in
+    let l = greenFits c (s .left .green) in
+    let t = greenFits c (s .through .green) in
+    let r = greenFits c (s .right .green) in
+    let dl = greenFits c (s .downstream .left) in
+    let dt = greenFits c (s .downstream .through) in
+    let g6 = both (l && t && r && dl && dt) (greenFits c (s .downstream .right)) h11 in
+    let g5 = both (l && t && r && dl) dt (g6 .0) in
+    let g4 = both (l && t && r) dl (g5 .0) in
+    let g3 = both (l && t) r (g4 .0) in
+    let g2 = both l t (g3 .0) in
+    record {
+      cycle = within 30 c 240 h7;
+      running = within 1000 (s .running) 300000 h8;
+      headway = within 1000 (s .headway) 10000 h9;
+      left = entry-range c (s .left) (v2 .0) (g2 .0);
+      through = entry-range c (s .through) (v2 .1) (g2 .1);
+      right = entry-range c (s .right) (v3 .1) (g3 .1);
+      access = leb-true (s .access) 6000 (v4 .1);
+      exits = exits-range (s .exits) (v5 .1);
+      leftGreen = green-range c (s .downstream .left) (g4 .1);
+      throughGreen = green-range c (s .downstream .through) (g5 .1);
+      rightGreen = green-range c (s .downstream .right) (g6 .1);
+      seeds = h12;
+    }
+
+-- a record that is accepted has the bytes that were tested, in their ranges
+pub record Accepted (l : List ℕ) (s : Segment) : Type 0 where
+  pub sized : length l ≡ size
+  pub is : s ≡ segmentOf l
+  pub ranges : Ranges s
+
+pub accepted : (l : List ℕ) (s : Segment) → checkOf l ≡ ok s → Accepted l s
+unfolding checkOf
+accepted l s e6 =
+    let e7 = need-rest 6 _ _ s e6 in
+    let e8 = need-rest 7 _ _ s e7 in
+    let e9 = need-rest 8 _ _ s e8 in
+    let e10 = need-rest 9 _ _ s e9 in
+    let e11 = need-rest 10 _ _ s e10 in
+    let e12 = need-rest 11 _ _ s e11 in
+    let last = need-rest 12 _ _ s e12 in
+    let is : segmentOf l ≡ s = cc in
+    record {
+      sized = eqb-true (length l) size (need-passed 6 _ _ s e6);
+      is = cc;
+      ranges = rw is at (tests-ranges (segmentOf l) (need-passed 7 _ _ s e7) (need-passed 8 _ _ s e8) (need-passed 9 _ _ s e9) (need-passed 10 _ _ s e10)
+          (need-passed 11 _ _ s e11) (need-passed 12 _ _ s e12));
+    }

@@ -1,0 +1,80 @@
+// Support of the test programs: cases of a vector file from standard input, and what is said of them. docs/VECTORS.md has the format.
+ghost use mathlib.Core.Path.{_≡_};
+ghost use Prim.Native.Nat.{_+_, _-_, _*_, _≤_, _<_, _^_};
+ghost use lib.ListN.{length};
+ghost use Rattle.vectors.specs.Vectors.{pattern, wordsDiffer};
+
+use libc::STDIN_FILENO;
+use libc::STDOUT_FILENO;
+
+// The next four bytes as a number; 0 where the input ends.
+pub fn read_word() -> u32
+    ensures { λ r. ⌜ r < 2 ^ 32 ⌝ }
+{
+    let mut word = [0u8; 4];
+    io::read_full(STDIN_FILENO, &mut word);
+    octets::word4_at(&word, 0)
+}
+
+// The body of the next case, in the front of a buffer: no more than fits.
+pub fn read_case(body: &mut [u8]) -> usize
+    ensures { λ r. ⌜ r ≤ length (now (body .entry)) ⌝ }
+{
+    let n = read_word() as usize;
+    if body.len() < n {
+        return 0;
+    }
+    let got = io::read_full(STDIN_FILENO, &mut body[0..n]);
+    if got < n {
+        return 0;
+    }
+    n
+}
+
+fn say(text: &[u8], n: u32) {
+    io::write_all(STDOUT_FILENO, text);
+    io::print_decimal(STDOUT_FILENO, n as u64);
+}
+
+// Says that a case differs, and returns one more than the number that did before.
+pub fn differing(i: u32, before: u32) -> u32
+    requires { ⌜ before < 2 ^ 32 - 1 ⌝ }
+    ensures { λ r. ⌜ r ≡ before + 1 ⌝ }
+{
+    say(b"case ", i);
+    io::write_all(STDOUT_FILENO, b" differs\n");
+    before + 1
+}
+
+// Says how many cases there were and how many of them differ.
+pub fn finish(cases: u32, differing: u32) {
+    say(b"", cases);
+    say(b" cases, ", differing);
+    io::write_all(STDOUT_FILENO, b" differs\n");
+}
+
+// A profile as it is lent: place i holds first + i.
+pub fn fill_pattern(run: &mut [u32], first: u32)
+    requires { ⌜ first + length (now run) ≤ 2 ^ 32 ⌝ }
+    ensures { λ _. ⌜ now (run .exit) ≡ pattern first (length (now (run .entry))) ⌝ }
+{
+    let mut i = 0;
+    while i < run.len() {
+        run[i] = first + (i as u32);
+        i += 1;
+    }
+}
+
+// Whether some number of a run differs from the one expected, four bytes each from a place on.
+pub fn numbers_differ(expected: &[u8], at: usize, run: &[u32]) -> bool
+    requires { ⌜ at + 4 * length (now run) ≤ length (now expected) ⌝ }
+    ensures { λ r. ⌜ r ≡ wordsDiffer (now (expected .entry)) at (now (run .entry)) ⌝ }
+{
+    let mut differ = false;
+    let mut i = 0;
+    while i < run.len() {
+        differ = differ | (octets::word4_at(expected, at + 4 * i) != run[i]);
+        i += 1;
+    }
+    differ
+}

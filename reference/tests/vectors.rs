@@ -1,0 +1,222 @@
+//! The vectors: read back by their formats and run again.
+
+use reference::archive;
+use reference::balance::{balance, check_volumes, pair_flows, Outcome, ROUND_LIMIT};
+use reference::discharge::discharge;
+use reference::vectors::{all, buffer_before, profile_before};
+use reference::working::work;
+
+struct Reader<'a>(&'a [u8]);
+
+impl<'a> Reader<'a> {
+    fn bytes(&mut self, length: usize) -> &'a [u8] {
+        let (part, rest) = self.0.split_at(length);
+        self.0 = rest;
+        part
+    }
+
+    fn number(&mut self, width: usize) -> u64 {
+        self.bytes(width)
+            .iter()
+            .rev()
+            .fold(0, |number, &byte| number << 8 | u64::from(byte))
+    }
+
+    fn word(&mut self) -> u32 {
+        self.number(4) as u32
+    }
+
+    fn count(&mut self) -> usize {
+        self.word() as usize
+    }
+
+    fn words(&mut self, count: usize) -> Vec<u32> {
+        (0..count).map(|_| self.word()).collect()
+    }
+
+    fn four(&mut self) -> [u32; 4] {
+        self.words(4).try_into().unwrap()
+    }
+}
+
+fn discharge_agrees(body: &mut Reader) -> bool {
+    let length = body.number(2) as usize;
+    let card = body.bytes(length);
+    let mut profile = profile_before(3_000_000_000, body.number(2) as usize);
+    let result = discharge(card, &mut profile);
+    body.word() == result.err().unwrap_or(0)
+        && body.words(3) == result.unwrap_or([0; 3])
+        && body.words(profile.len()) == profile
+}
+
+fn archive_agrees(body: &mut Reader) -> bool {
+    let kind = body.number(1);
+    let length = body.count();
+    let bytes = body.bytes(length);
+    match kind {
+        1 => read_agrees(body, bytes),
+        2 => find_agrees(body, bytes),
+        _ => add_agrees(body, bytes),
+    }
+}
+
+fn read_agrees(body: &mut Reader, bytes: &[u8]) -> bool {
+    let result = archive::read(bytes);
+    let places = result.map_or(Vec::new(), |archive| archive.records().collect());
+    let agrees = body.word() == result.err().unwrap_or(0) && body.count() == places.len();
+    agrees && places.iter().all(|&place| body.count() == place)
+}
+
+fn find_agrees(body: &mut Reader, bytes: &[u8]) -> bool {
+    let number = body.word();
+    let result = archive::find(bytes, number);
+    let title = archive::title(bytes, number);
+    body.word() == result.err().unwrap_or(0)
+        && body.count() == result.unwrap_or(0)
+        && body.count() == title.len()
+        && body.bytes(title.len()) == title
+}
+
+fn add_agrees(body: &mut Reader, bytes: &[u8]) -> bool {
+    let length = body.count();
+    let card = body.bytes(length);
+    let length = body.count();
+    let title = body.bytes(length);
+    let mut buffer = buffer_before(body.count());
+    let result = archive::add(bytes, card, title, &mut buffer);
+    body.word() == result.err().unwrap_or(0)
+        && body.count() == result.unwrap_or(0)
+        && body.bytes(buffer.len()) == buffer
+}
+
+fn balance_agrees(body: &mut Reader) -> bool {
+    let (volumes, exits) = (body.four(), body.four());
+    let seeds = [(); 4].map(|_| body.bytes(4).try_into().unwrap());
+    let expected = match check_volumes(&volumes, &exits, &seeds) {
+        Err(number) => (u64::from(number), 2, 0, 0.0, [[0.0; 4]; 4]),
+        Ok(()) => {
+            let found = balance(&volumes, &exits, &seeds, ROUND_LIMIT);
+            let (number, outcome, sum) = match found.outcome {
+                Outcome::Settled(sum) => (0, 1, sum),
+                Outcome::Unsettled(sum) => (15, 0, sum),
+            };
+            (number, outcome, u64::from(found.rounds), sum, found.cells)
+        }
+    };
+    let head = [
+        body.number(4),
+        body.number(4),
+        body.number(4),
+        body.number(8),
+    ];
+    let cells = expected
+        .4
+        .concat()
+        .iter()
+        .all(|cell| body.number(8) == cell.to_bits());
+    let flows = pair_flows(&volumes, &expected.4).concat();
+    let flows = if expected.0 == 0 { flows } else { vec![0; 16] };
+    head == [expected.0, expected.1, expected.2, expected.3.to_bits()]
+        && cells
+        && body.words(16) == flows
+}
+
+fn working_agrees(body: &mut Reader) -> bool {
+    let length = body.number(2) as usize;
+    let card = body.bytes(length);
+    let mut profiles = [3_000_000_000, 3_100_000_000, 3_200_000_000]
+        .map(|start| profile_before(start, body.count()));
+    let [output, first, second] = &mut profiles;
+    let result = work(card, output, first, second);
+    let mut numbers = vec![0; 31];
+    match result {
+        Err(refused) => {
+            numbers[0] = u64::from(refused.number);
+            numbers[1] = refused.last_sum.to_bits();
+        }
+        Ok(working) => {
+            numbers = vec![0, working.last_sum.to_bits()];
+            numbers.extend([working.shift, working.rounds].map(u64::from));
+            numbers.extend(working.flows.concat().into_iter().map(u64::from));
+            for exit in working.exits {
+                numbers.extend([exit.total, exit.green, u64::from(exit.permille)]);
+            }
+            numbers.extend([working.access_total, u64::from(working.blocked)]);
+        }
+    }
+    let widths = [&[4, 8][..], &[4; 18], &[8, 8, 4, 8, 8, 4, 8, 8, 4, 8, 4]].concat();
+    let agrees = widths
+        .iter()
+        .zip(&numbers)
+        .all(|(&width, &number)| body.number(width) == number);
+    assert_eq!(widths.len(), numbers.len());
+    agrees
+        && profiles
+            .iter()
+            .all(|profile| body.words(profile.len()) == *profile)
+}
+
+/// The cases that differ; a case that agrees is read to its end.
+fn differing(bytes: &[u8], agrees: fn(&mut Reader) -> bool) -> Vec<usize> {
+    let mut file = Reader(bytes);
+    let cases = file.count();
+    let mut differing = Vec::new();
+    for case in 0..cases {
+        let length = file.count();
+        let mut body = Reader(file.bytes(length));
+        if !agrees(&mut body) {
+            differing.push(case);
+        } else {
+            assert!(body.0.is_empty());
+        }
+    }
+    assert!(file.0.is_empty());
+    differing
+}
+
+#[test]
+fn only_the_last_case_differs() {
+    let agrees = [
+        discharge_agrees,
+        archive_agrees,
+        balance_agrees,
+        working_agrees,
+    ];
+    for ((name, file), agrees) in all().iter().zip(agrees) {
+        let last = file.len() - 1;
+        assert_eq!(differing(&file.bytes(), agrees), [last], "{name}");
+        let expected = format!("case {last} differs\n{} cases, 1 differs\n", last + 1);
+        assert_eq!(file.expected(), expected);
+    }
+}
+
+#[test]
+fn the_same_each_time_and_small() {
+    let most = [900_000, 1_500_000, 400_000, 3_000_000];
+    for (((name, one), (_, two)), most) in all().iter().zip(&all()).zip(most) {
+        let bytes = one.bytes();
+        assert!(bytes == two.bytes() && bytes.len() <= most, "{name}");
+    }
+}
+
+#[test]
+fn every_refusal_is_met() {
+    let labels: [&[&str]; 4] = [
+        &["0", "6", "7", "8", "9", "10", "11", "12", "16"],
+        &[
+            "read 0", "read 1", "read 2", "read 3", "read 4", "read 5", "find 0", "find 1",
+            "find 2", "find 3", "find 4", "find 5", "find 6", "add 0", "add 1", "add 2", "add 3",
+            "add 4", "add 5", "add 6", "add 17", "add 18",
+        ],
+        &["0", "13", "14", "15"],
+        &[
+            "0", "6", "7", "8", "9", "10", "11", "12", "13", "14", "15", "16",
+        ],
+    ];
+    for ((name, file), labels) in all().iter().zip(labels) {
+        for &label in labels {
+            assert!(file.tally.contains_key(label), "{name} lacks {label}");
+        }
+        assert_eq!(file.tally.len(), labels.len() + 1);
+    }
+}
