@@ -60,7 +60,7 @@ pub fn landing(step: Step, shift: u32, cycle: u32) -> Step {
 /// Total, part on green and thousandths of one exit's run.
 pub fn exit_figures(run: &[u32], green: Green) -> ExitFigures {
     let total = total(run);
-    let on_green = green
+    let on_green: u64 = green
         .steps(run.len() as u32)
         .map(|step| u64::from(run[step.index()]))
         .sum();

@@ -1,0 +1,46 @@
+-- The starred figures of the paper, computed from the definitions that the contracts cite.
+use Prim.Native.Nat.{ℕ}
+use mathlib.Core.Path.{_≡_, refl}
+use mathlib.Core.List.{List, [], _∷_, _++_}
+use lib.ListN.{length, take, drop, replicate}
+use Rattle.refusal.specs.Refusal.{need}
+use Rattle.octets.specs.Octets.{word2, word4}
+use Rattle.lists.specs.Lists.{tab}
+use Rattle.signal.specs.declared.Green.{Green}
+use Rattle.signal.specs.Turn.{turn}
+use Rattle.signal.specs.Greens.{greenStep, greenSteps}
+use Rattle.signal.specs.Landing.{landing, landed}
+use Rattle.segment.specs.Layout.{greenOf, greensOf, entryOf, volumesOf, rowOf, tableOf}
+use Rattle.segment.specs.Segment.{zeroSeeds, seedsOf, segmentOf}
+use Rattle.validation.specs.Validation.{cycleFits, runningFits, headwayFits, volumesFit, greensFit, seedsAdd, checkOf}
+use Rattle.metering.specs.Metering.{capacity, discharged}
+use Rattle.platoon.specs.Discharge.{carried, onGreen, received, servedOf, served, queueOf, greenFlows, profileOf}
+use Rattle.discharge.specs.Discharge.{entryProfile, acceptOf, written, profileAfter}
+use Rattle.figures.specs.Cards.{throughEntry}
+
+abbrev pub green : ℕ → ℕ → Green
+green post steps = record { start = record { 0 = post }; steps = steps }
+
+unfoldable pub computed : List (List ℕ)
+computed =
+    -- post 0, length 1; post 55, length 10, C 60
+    greenSteps 60 (green 0 1)
+    ∷ greenSteps 60 (green 55 10)
+    -- capacity
+    ∷ (capacity 1800 31 70 ∷ [])
+    -- G 10 over 4 green steps
+    ∷ tab (received 10 4) 1 4
+    -- the discharge of the through entry, by the discharge call on its record
+    ∷ take 60 (drop 60 (profileAfter (acceptOf throughEntry 180) (replicate 180 0)))
+    ∷ []
+
+pub figures :
+    computed
+    ≡ (1 ∷ [])
+    ∷ (56 ∷ 57 ∷ 58 ∷ 59 ∷ 60 ∷ 1 ∷ 2 ∷ 3 ∷ 4 ∷ 5 ∷ [])
+    ∷ (797 ∷ [])
+    ∷ (2 ∷ 3 ∷ 2 ∷ 3 ∷ [])
+    ∷ (replicate 15 1800000 ++ (replicate 15 600000 ++ replicate 30 0))
+    ∷ []
+unfolding computed tab turn greenStep greenSteps capacity received landing landed need word2 word4 greenOf greensOf entryOf volumesOf rowOf tableOf zeroSeeds seedsOf segmentOf cycleFits runningFits headwayFits volumesFit greensFit seedsAdd checkOf discharged carried onGreen servedOf served queueOf greenFlows profileOf entryProfile acceptOf written
+figures = refl

@@ -1,0 +1,1 @@
+// The figures of the paper are theorems in specs/: nothing runs here.
