@@ -1,6 +1,6 @@
 //! The exact working, and demand 3 of a working's result.
 
-use crate::arrivals::{landing, PairShare};
+use crate::arrivals::PairShare;
 use crate::discharge::{fill_discharge, UNITS};
 use crate::dispersion::{arrival_time, denominator, Street, CYCLES, NUMERATOR};
 use crate::greens::Step;

@@ -129,7 +129,27 @@ fn what_is_left_over() {
     assert_eq!(pair_flows(&[1, 1, 3, 0], &cells), expected);
 }
 
-/// The rounds are those of the paper worked by hand for one entry and one exit.
+/// Through 10 and access 90 in and out: the sums of three rounds written out.
+#[test]
+fn last_sums_written_out() {
+    let volumes = [0, 10, 0, 90];
+    let (mut through, mut access) = (10.0, 90.0);
+    for rounds in 1..=3 {
+        let through_ratio = 10.0 / (through * 0.78 + access * 0.97);
+        let access_ratio = 90.0 / (through * 0.02);
+        let new_through = 10.0 / (through_ratio * 0.78 + access_ratio * 0.02);
+        let new_access = 90.0 / (through_ratio * 0.97);
+        let sum = (through - new_through) + (new_access - access);
+        let result = balance(&volumes, &volumes, &DEFAULT_SEEDS, rounds);
+        assert_eq!(
+            (result.outcome, result.rounds),
+            (Outcome::Unsettled(sum), rounds)
+        );
+        (through, access) = (new_through, new_access);
+    }
+}
+
+/// The printed example settles in its first round.
 #[test]
 fn one_entry_settles_at_once() {
     let result = balance(
