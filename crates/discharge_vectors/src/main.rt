@@ -1,7 +1,6 @@
 // Runs the discharge call on the vectors of docs/VECTORS.md and compares every number.
 ghost use Prim.Native.Nat.{_+_, _*_, _≤_};
 ghost use lib.ListN.{length};
-
 use discharge::Discharged;
 
 fn answer_differs(expected: &[u8], answer: Discharged) -> bool
@@ -13,8 +12,15 @@ fn answer_differs(expected: &[u8], answer: Discharged) -> bool
     let right_volume = octets::word4_at(expected, 12);
     match answer {
         Discharged::Refused(n) => n != number,
-        Discharged::Volumes { left, through, right } => {
-            (number != 0) | (left != left_volume) | (through != through_volume) | (right != right_volume)
+        Discharged::Volumes {
+            left,
+            through,
+            right,
+        } => {
+            (number != 0)
+                | (left != left_volume)
+                | (through != through_volume)
+                | (right != right_volume)
         }
     }
 }

@@ -1,4 +1,4 @@
--- Metering, item 1: what each entry discharges. Volumes are veh/h; a flow unit (the paper's grain) is 1/3,600,000 vehicle.
+-- Metering, item 1: what each entry discharges, in veh/h.
 use Prim.Native.Nat.{ℕ, _*_, _/_, min, _≤_, _<_}
 use native.Mathlib.Omega.{arith}
 use native.Mathlib.Nat.{div-mul-le-self, mul-le-mul-right}

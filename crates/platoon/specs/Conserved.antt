@@ -9,9 +9,10 @@ use lib.Dec.{leb, eqb}
 use lib.ListN.{length}
 use borrow.Author.Tests.{leb-true, leb-false, eqb-true, eqb-false}
 use Rattle.lists.specs.Lists.{sum}
+use Rattle.movements.specs.Movements.{flowUnits}
 use Rattle.signal.specs.declared.Green.{Green}
 use Rattle.signal.specs.Landing.{landed, landed-sum}
-use Rattle.platoon.specs.Discharge.{units, carried, onGreen, received, servedOf, served, queueOf, greenFlows, profileOf}
+use Rattle.platoon.specs.Discharge.{carried, onGreen, received, servedOf, served, queueOf, greenFlows, profileOf}
 
 -- what is still to arrive after k steps can be served in the steps left
 rest-served : (all g rate k : ℕ) → 0 < g → k ≤ g → all ≤ rate * g → all - k * all / g ≤ (g - k) * rate
@@ -79,4 +80,4 @@ pub profile-sum : (c : ℕ) (green : Green) (saturation p o : ℕ) → 0 < c →
 unfolding profileOf greenFlows queueOf landed carried
 profile-sum c green saturation p o pos part serves =
     landed-sum c (green .start .0) 1 (greenFlows (green .steps) (queueOf c saturation p o)) pos
-    ∙ green-sum (carried c o) (onGreen (carried c o) p) (green .steps) (units saturation) (on-green-le (carried c o) p part) (omega arith)
+    ∙ green-sum (carried c o) (onGreen (carried c o) p) (green .steps) (flowUnits saturation) (on-green-le (carried c o) p part) (omega arith)

@@ -33,4 +33,3 @@ pub fields : (l : List ℕ) {c r h : ℕ} {le th ri : Entry} {a : ℕ} {x : Coun
     _≡_ {A = Segment} (record { cycle = c; running = r; headway = h; left = le; through = th; right = ri; access = a; exits = x; downstream = g; seeds = p }) (segmentOf l)
 unfolding segmentOf
 fields l e1 e2 e3 e4 e5 e6 e7 e8 e9 e10 = rw (e1, e2, e3, e4, e5, e6, e7, e8, e9, e10)
-

@@ -38,4 +38,3 @@ segmentOf l =
       downstream = greensOf l greensAt;
       seeds = seedsOf l;
     }
-

@@ -177,4 +177,3 @@ pub fn segment_of(bytes: &[u8]) -> Segment
         seeds: seeds_of(bytes),
     }
 }
-

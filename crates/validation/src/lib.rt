@@ -1,7 +1,6 @@
 // The tests of a segment record: accepted, or refused by the lowest of the numbers 6 to 12.
 ghost use mathlib.Core.Path.{_≡_};
 ghost use Rattle.validation.specs.Validation.{checkOf, checkedOf, cycleFits, entryFits, exitsFit, greenFits, greensFit, headwayFits, rowAdds, runningFits, seedsAdd, volumesFit};
-
 use movements::Counts;
 use movements::Seeds;
 use segment::Entry;

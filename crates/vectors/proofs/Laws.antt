@@ -30,7 +30,7 @@ module _ {first : ℕ} {run₀ run : List ℕ} {i : ℕ} (r : Filling first run�
       record {
         within = omega arith;
         long = simp length-set (r .long);
-        same = r .same ∙ rw (add-one, take-suc-set run i (first + i) (omega (arith, r .long)), e, append-assoc)
+        same = r .same ∙ rw (add-one, take-suc-set run i (first + i) (omega (arith, r .long)), e, append-assoc);
       }
 
   pub filling-done : length run₀ ≤ i → run ≡ pattern first (length run₀)
@@ -53,7 +53,7 @@ module _ {l : List ℕ} {at : ℕ} {run : List ℕ} {differ : Bool} {i : ℕ} (r
       let n : at + 4 * i + 4 ≡ at + 4 * suc i = omega arith in
       record {
         within = omega arith;
-        same = r .same ∙ rw (drop-cons run i 0, add-one, n, e) (sym (or-assoc differ (not (eqb (word4 l (at + 4 * i)) (getD run i 0))) (wordsDiffer l (at + 4 * suc i) (drop (suc i) run))))
+        same = r .same ∙ rw (drop-cons run i 0, add-one, n, e) (sym (or-assoc differ (not (eqb (word4 l (at + 4 * i)) (getD run i 0))) (wordsDiffer l (at + 4 * suc i) (drop (suc i) run))));
       }
 
   pub comparing-done : length run ≤ i → differ ≡ wordsDiffer l at run

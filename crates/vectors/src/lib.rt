@@ -3,7 +3,6 @@ ghost use mathlib.Core.Path.{_≡_};
 ghost use Prim.Native.Nat.{_+_, _-_, _*_, _≤_, _<_, _^_};
 ghost use lib.ListN.{length};
 ghost use Rattle.vectors.specs.Vectors.{pattern, wordsDiffer};
-
 use libc::STDIN_FILENO;
 use libc::STDOUT_FILENO;
 
