@@ -56,12 +56,19 @@ fn platoons(record: &Record) -> Vec<Platoon> {
     (0..3).map(platoon).collect()
 }
 
-/// The work profiles hold the right entry's cycles one and two.
+/// The work profiles hold the right entry's last two cycles, cycle one in the first.
 fn check_work_profiles(worked: &Worked, right: &Platoon) -> Result<(), String> {
-    let cycle = worked.record.cycle as usize;
-    let held = [&worked.first[..cycle], &worked.second[..cycle]].concat();
-    if held != right.arrivals {
-        return Err("work profiles do not hold the right entry's cycles".into());
+    let steps = worked.record.cycle as usize;
+    for (n, cycle) in right
+        .arrivals
+        .chunks_exact(steps)
+        .enumerate()
+        .skip(CYCLES - 2)
+    {
+        let profile = [worked.first, worked.second][n % 2];
+        if profile[..steps] != *cycle {
+            return Err("work profiles do not hold the right entry's cycles".into());
+        }
     }
     Ok(())
 }
@@ -86,13 +93,8 @@ fn check_exit_flows(worked: &Worked, platoons: &[Platoon]) -> Result<(), String>
         }
         power = power.times(divisor);
         if k > (CYCLES as u32 - 1) * cycle {
-            check_step(
-                worked,
-                platoons,
-                &exact,
-                &power,
-                landing(step, shift, cycle),
-            )?;
+            let landed = Step((step.0 + shift - 1) % cycle + 1);
+            check_step(worked, platoons, &exact, &power, landed)?;
         }
     }
     Ok(())

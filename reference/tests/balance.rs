@@ -149,6 +149,26 @@ fn last_sums_written_out() {
     }
 }
 
+/// 13 goes before 14; 14 counts only entries with discharge and exits with volume.
+#[test]
+fn refused_volumes() {
+    let seeds = [
+        [100, 0, 0, 0],
+        [50, 50, 0, 0],
+        [50, 0, 50, 0],
+        [0, 0, 0, 100],
+    ];
+    let number = |discharge, exits| check_volumes(&discharge, &exits, &seeds).err();
+    assert_eq!(number([0; 4], [1; 4]), Some(13));
+    assert_eq!(number([1; 4], [0; 4]), Some(13));
+    assert_eq!(number([1; 4], [1; 4]), None);
+    assert_eq!(number([1, 0, 1, 1], [1; 4]), Some(14));
+    assert_eq!(number([1, 0, 1, 1], [1, 0, 1, 1]), None);
+    assert_eq!(number([1; 4], [0, 1, 1, 1]), Some(14));
+    assert_eq!(number([0, 1, 1, 1], [0, 1, 1, 1]), None);
+    assert_eq!(number([0, 1, 1, 1], [0, 1, 1, 0]), Some(14));
+}
+
 /// The printed example settles in its first round.
 #[test]
 fn one_entry_settles_at_once() {

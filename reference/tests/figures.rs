@@ -106,6 +106,8 @@ fn a_third_of_one_one_one() {
 fn blocked_above_the_edge() {
     assert!(!blocked(878_048, 4100));
     assert!(blocked(878_049, 4100));
+    assert!(!blocked(360_000, 10000));
+    assert!(blocked(360_001, 10000));
 }
 
 #[test]

@@ -62,7 +62,7 @@ fn short_profiles() {
     }
 }
 
-/// An impulse: one vehicle an hour in a green of one step shows where it lands.
+/// A green of one step shows where it lands.
 #[test]
 fn landing_goes_round_many_times() {
     let mut card = quiet(30);

@@ -39,6 +39,7 @@ pub fn file() -> File {
     add_extremes(&mut file);
     add_balances(&mut file);
     add_random(&mut file);
+    add_long(&mut file);
     file.push("wrong".into(), case(&busy(CYCLE_LEAST), [120, 30, 30], 1).1);
     file
 }
@@ -299,5 +300,33 @@ fn add_random(file: &mut File) {
             lengths = lengths.map(|length| length + random.below(9) as usize);
         }
         add(file, &card, lengths);
+    }
+}
+
+/// Accepted records of 240 steps and 300 s, three busy entries, greens past the end.
+fn add_long(file: &mut File) {
+    let mut random = Random::new(SEED + 1);
+    let mut kept = 0;
+    while kept < 30 {
+        let mut card = random_card(&mut random, CYCLE_MOST);
+        put_u32(&mut card, RUNNING_TIME_AT, 300_000);
+        for i in 0..3 {
+            let start = random.between(120, 239);
+            let length = random.between(CYCLE_MOST - start + 1, CYCLE_MOST);
+            let volume = random.between(50, 1500);
+            let entry = [
+                volume,
+                random.between(1200, 5000),
+                start,
+                length,
+                random.below(1001),
+            ];
+            put_entry(&mut card, i, entry);
+        }
+        let (number, body) = case(&card, exact(CYCLE_MOST), 0);
+        if number == 0 {
+            file.push("0".into(), body);
+            kept += 1;
+        }
     }
 }
