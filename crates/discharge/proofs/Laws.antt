@@ -10,19 +10,16 @@ use lib.ListN.{length, take, drop, length-append}
 use lib.Seq.{take-at, drop-at, drop-drop}
 use borrow.Author.Tests.{le-leb, lt-leb, leb-true}
 use Rattle.refusal.specs.Refusal.{Or, refused, ok, need, need-passed, need-rest, andThen}
-use Rattle.lists.specs.Lists.{tab-length}
-use Rattle.signal.specs.Landing.{landed, landing}
-use Rattle.segment.specs.declared.Entry.{Entry}
 use Rattle.segment.specs.declared.Segment.{Segment}
 use Rattle.validation.specs.declared.Checked.{Checked}
 use Rattle.validation.specs.declared.Checked.the-variants.{Refused, Valid}
 use Rattle.validation.specs.Validation.{checkOf, checkedOf}
-use Rattle.validation.specs.Ranges.{EntryRanges, Ranges, accepted}
-use Rattle.metering.specs.Metering.{discharged, discharged-volume}
-use Rattle.platoon.specs.Discharge.{profileOf, greenFlows, queueOf}
+use Rattle.validation.specs.Ranges.{Ranges, accepted}
 use Rattle.discharge.specs.declared.Discharged.{Discharged}
 use Rattle.discharge.specs.declared.Discharged.the-variants as d
-use Rattle.discharge.specs.Discharge.{entryProfile, acceptOf, answerOf, written, profileAfter, Calls}
+use Rattle.entries.specs.Entries.{entryProfile}
+use Rattle.entries.specs.Laws.{entry-length}
+use Rattle.discharge.specs.Discharge.{acceptOf, answerOf, written, profileAfter, Calls}
 
 -- an answer of a check is the definition's
 pub checked-refused : (x : Or Segment) (n : ℕ) → checkedOf x ≡ Refused n → x ≡ refused n
@@ -58,14 +55,6 @@ module _ (l : List ℕ) (room : ℕ) where
           let same : t ≡ s = cc in
           let k = leb-true (3 * t .cycle) room (need-passed 16 (leb (3 * t .cycle) room) (ok t) s f) in
           (accepted l s (q ∙ ap (λ (u : Segment). ok u) same) .ranges, (rw same at k))
-
-pub entry-length : (c : ℕ) (e : Entry) → length (entryProfile c e) ≡ c
-unfolding entryProfile profileOf landed
-entry-length c e = tab-length _ 1 c
-
--- what an entry's discharge asks
-pub entry-asks : (c o : ℕ) (e : Entry) → EntryRanges c e → o ≡ discharged c e → o ≤ 6000
-entry-asks c o e r h = omega (arith, h, discharged-volume c e, r .volume)
 
 -- three runs lent one after the other
 module _ (c : ℕ) (p y1 y2 y3 : List ℕ) (l1 : length y1 ≡ c) (l2 : length y2 ≡ c) where

@@ -5,17 +5,12 @@ use mathlib.Core.List.{List, _++_}
 use lib.Dec.{leb}
 use lib.ListN.{length, drop}
 use Rattle.refusal.specs.Refusal.{Or, refused, ok, need, andThen}
-use Rattle.segment.specs.declared.Entry.{Entry}
 use Rattle.segment.specs.declared.Segment.{Segment}
 use Rattle.validation.specs.Validation.{checkOf}
 use Rattle.metering.specs.Metering.{discharged}
-use Rattle.platoon.specs.Discharge.{profileOf}
+use Rattle.entries.specs.Entries.{entryProfile}
 use Rattle.discharge.specs.declared.Discharged.{Discharged}
 use Rattle.discharge.specs.declared.Discharged.the-variants.{Refused, Volumes}
-
--- one entry's cycle
-unfoldable pub entryProfile : ℕ → Entry → List ℕ
-entryProfile c e = profileOf c (e .green) (e .saturation) (e .arriving) (discharged c e)
 
 -- the places record and lent profiles, and no other
 unfoldable pub acceptOf : List ℕ → ℕ → Or Segment

@@ -1,23 +1,16 @@
 -- Of every accepted record each entry's profile adds to what its cycle carries: T = 1000·O·C.
-use Prim.Native.Nat.{ℕ, _≤_}
-use native.Mathlib.Omega.{arith}
+use Prim.Native.Nat.{ℕ}
 use mathlib.Core.Path.{_≡_}
 use mathlib.Core.List.{List}
 use Rattle.refusal.specs.Refusal.{ok}
 use Rattle.lists.specs.Lists.{sum}
-use Rattle.segment.specs.declared.Entry.{Entry}
 use Rattle.segment.specs.declared.Segment.{Segment}
 use Rattle.validation.specs.Validation.{checkOf}
-use Rattle.validation.specs.Ranges.{EntryRanges, Ranges, accepted}
-use Rattle.metering.specs.Metering.{discharged, discharged-served}
+use Rattle.validation.specs.Ranges.{Ranges, accepted}
+use Rattle.metering.specs.Metering.{discharged}
 use Rattle.platoon.specs.Discharge.{carried}
-use Rattle.platoon.specs.Conserved.{profile-sum}
-use Rattle.discharge.specs.Discharge.{entryProfile}
-
-pub entry-adds : (c : ℕ) (e : Entry) → 30 ≤ c → EntryRanges c e → sum (entryProfile c e) ≡ carried c (discharged c e)
-unfolding entryProfile
-entry-adds c e h r =
-    profile-sum c (e .green) (e .saturation) (e .arriving) (discharged c e) (omega arith) (r .arriving) (discharged-served c e)
+use Rattle.entries.specs.Entries.{entryProfile}
+use Rattle.entries.specs.Laws.{entry-adds}
 
 pub record Adds (s : Segment) : Type 0 where
   pub left : sum (entryProfile (s .cycle) (s .left)) ≡ carried (s .cycle) (discharged (s .cycle) (s .left))

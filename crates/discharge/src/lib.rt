@@ -2,11 +2,10 @@
 ghost use mathlib.Core.Path.{_≡_};
 ghost use Prim.Native.Nat.{_*_, _≤_};
 ghost use lib.ListN.{length};
-ghost use Rattle.validation.specs.Ranges.{EntryRanges, Ranges};
+ghost use Rattle.validation.specs.Ranges.{Ranges};
 ghost use Rattle.validation.specs.Validation.{checkedOf};
 ghost use Rattle.metering.specs.Metering.{discharged as dischargedOf};
-ghost use Rattle.discharge.specs.Discharge.{Calls, acceptOf, entryProfile, written};
-use segment::Entry;
+ghost use Rattle.discharge.specs.Discharge.{Calls, acceptOf, written};
 use segment::Segment;
 use validation::Checked;
 
@@ -32,17 +31,6 @@ fn accept(bytes: &[u8], room: usize) -> Checked
     }
 }
 
-// One entry's profile over a run of the cycle's length, and its discharge volume.
-fn write_entry(c: u32, e: Entry, run: &mut [u32]) -> u32
-    requires { ⌜ (30 ≤ c) × (c ≤ 240) × (length (now run) ≡ c) × EntryRanges c e ⌝ }
-    ensures { λ r. ⌜ r ≡ dischargedOf c e ⌝ }
-    ensures { λ _. ⌜ now (run .exit) ≡ entryProfile c e ⌝ }
-{
-    let o = metering::discharged(c, e);
-    platoon::discharge(e.green, e.saturation, e.arriving, o, run);
-    o
-}
-
 fn write(s: Segment, profile: &mut [u32]) -> Discharged
     requires { ⌜ Ranges s × (3 * s .cycle ≤ length (now profile)) ⌝ }
     ensures { λ r. ⌜ r ≡ Discharged.Volumes (dischargedOf (s .cycle) (s .left)) (dischargedOf (s .cycle) (s .through)) (dischargedOf (s .cycle) (s .right)) ⌝ }
@@ -51,9 +39,9 @@ fn write(s: Segment, profile: &mut [u32]) -> Discharged
     let one = s.cycle as usize;
     let two = one + one;
     let three = two + one;
-    let left = write_entry(s.cycle, s.left, &mut profile[0..one]);
-    let through = write_entry(s.cycle, s.through, &mut profile[one..two]);
-    let right = write_entry(s.cycle, s.right, &mut profile[two..three]);
+    let left = entries::discharge_entry(s.cycle, s.left, &mut profile[0..one]);
+    let through = entries::discharge_entry(s.cycle, s.through, &mut profile[one..two]);
+    let right = entries::discharge_entry(s.cycle, s.right, &mut profile[two..three]);
     Discharged::Volumes {
         left,
         through,

@@ -15,7 +15,8 @@ use Rattle.segment.specs.Segment.{zeroSeeds, seedsOf, segmentOf}
 use Rattle.validation.specs.Validation.{cycleFits, runningFits, headwayFits, volumesFit, greensFit, seedsAdd, checkOf}
 use Rattle.metering.specs.Metering.{capacity, discharged}
 use Rattle.platoon.specs.Discharge.{carried, onGreen, received, servedOf, served, queueOf, greenFlows, profileOf}
-use Rattle.discharge.specs.Discharge.{entryProfile, acceptOf, written, profileAfter}
+use Rattle.entries.specs.Entries.{entryProfile}
+use Rattle.discharge.specs.Discharge.{acceptOf, written, profileAfter}
 use Rattle.figures.specs.Cards.{throughEntry}
 
 abbrev pub green : ℕ → ℕ → Green

@@ -6,12 +6,13 @@ use mathlib.Core.Bool.{Bool, true, false}
 use mathlib.Core.Path.{_≡_, refl, ap, sym, _∙_}
 use mathlib.Core.List.{List, [], _∷_}
 use lib.Dec.{leb, eqb}
-use lib.ListN.{length}
+use lib.ListN.{length, getD}
 use borrow.Author.Tests.{leb-true, leb-false, eqb-true, eqb-false}
 use Rattle.lists.specs.Lists.{sum}
 use Rattle.movements.specs.Movements.{flowUnits}
 use Rattle.signal.specs.declared.Green.{Green}
-use Rattle.signal.specs.Landing.{landed, landed-sum}
+use Rattle.signal.specs.Greens.{Within}
+use Rattle.signal.specs.Landing.{landed, landed-sum, landed-le}
 use Rattle.platoon.specs.Discharge.{carried, onGreen, received, servedOf, served, queueOf, greenFlows, profileOf}
 
 -- what is still to arrive after k steps can be served in the steps left
@@ -81,3 +82,27 @@ unfolding profileOf greenFlows queueOf landed carried
 profile-sum c green saturation p o pos part serves =
     landed-sum c (green .start .0) 1 (greenFlows (green .steps) (queueOf c saturation p o)) pos
     ∙ green-sum (carried c o) (onGreen (carried c o) p) (green .steps) (flowUnits saturation) (on-green-le (carried c o) p part) (omega arith)
+
+-- no step discharges more than the green can serve
+served-le : (all g rate n k waiting : ℕ) (i : ℕ) → getD (served all g rate n k waiting) i 0 ≤ rate
+unfolding served servedOf
+served-le all g rate zero k waiting i = omega arith
+served-le all g rate (suc n) k waiting zero = omega arith
+served-le all g rate (suc n) k waiting (suc i) =
+    served-le all g rate n (suc k) (servedOf (waiting + received all g k) rate .waiting) i
+
+served-length : (all g rate n k waiting : ℕ) → length (served all g rate n k waiting) ≡ n
+unfolding served
+served-length all g rate zero k waiting = refl
+served-length all g rate (suc n) k waiting =
+    ap suc (served-length all g rate n (suc k) (servedOf (waiting + received all g k) rate .waiting))
+
+pub profile-le : (c : ℕ) (green : Green) (saturation p o : ℕ) → Within c green → (i : ℕ) →
+    getD (profileOf c green saturation p o) i 0 ≤ flowUnits saturation
+unfolding profileOf greenFlows queueOf
+profile-le c green saturation p o w i =
+    let q = queueOf c saturation p o in
+    let g = green .steps in
+    landed-le c (green .start .0) (flowUnits saturation) (greenFlows g q)
+    (omega (arith, w .steps, served-length (q .arriving) g (q .rate) g 1 (q .waiting)))
+    (served-le (q .arriving) g (q .rate) g 1 (q .waiting)) i

@@ -4,10 +4,10 @@ use native.Mathlib.Omega.{arith}
 use mathlib.Core.Bool.{Bool, true, false, cond}
 use mathlib.Core.Path.{_≡_, refl, ap, sym, _∙_}
 use mathlib.Core.List.{List, [], _∷_, _++_}
-use lib.Dec.{eqb}
-use lib.ListN.{length, set, getD, replicate, length-set, length-replicate}
+use lib.Dec.{eqb, ltb}
+use lib.ListN.{length, set, getD, replicate, length-set, length-replicate, List·getD-eq-default}
 use lib.Seq.{getD-set-same, getD-set-other}
-use borrow.Author.Tests.{eqb-true, eqb-false, eq-eqb, ne-eqb}
+use borrow.Author.Tests.{eqb-true, eqb-false, eq-eqb, ne-eqb, ltb-true, ltb-false}
 use Rattle.lists.specs.Lists.{sum, tab, tab-length, tab-at, tab-is, tab-same, tab-sum, tab-zero}
 use Rattle.signal.specs.Turn.{turn, turn-pos, turn-le, turn-apart, earlier, earlier-pos, earlier-le, earlier-lands}
 
@@ -114,6 +114,19 @@ pub landing-is : (c t s : ℕ) (ps : List ℕ) → 0 < s → s ≤ c → length 
 landing-is c t s ps h r l =
     one c t s (earlier c t s) (earlier-pos c t s) (earlier-le c t s (omega arith)) (earlier-lands c t s h r) 1 ps (omega arith)
     (earlier-pos c t s) (omega arith)
+
+-- no step has more than the largest number
+pub landed-le : (c t m : ℕ) (ps : List ℕ) → length ps ≤ c → ((j : ℕ) → getD ps j 0 ≤ m) → (i : ℕ) → getD (landed c t ps) i 0 ≤ m
+unfolding landed
+landed-le c t m ps l h i = go (ltb i c) refl
+  where
+    go : (b : Bool) → ltb i c ≡ b → getD (tab (λ s. landing c t s 1 ps) 1 c) i 0 ≤ m
+    go true e =
+        let k = ltb-true i c e in
+        rw (tab-at (λ s. landing c t s 1 ps) 1 c i k, landing-is c t (1 + i) ps (omega arith) (omega arith) l) (h (earlier c t (1 + i) - 1))
+    go false e =
+        let k = ltb-false i c e in
+        rw (List·getD-eq-default (tab (λ s. landing c t s 1 ps) 1 c) 0 {n = i} (omega (arith, tab-length (λ s. landing c t s 1 ps) 1 c))) (omega arith)
 
 -- places where numbers from the ith on will land, as they were
 pub record Untouched (c t i : ℕ) (run₀ run : List ℕ) : Type 0 where

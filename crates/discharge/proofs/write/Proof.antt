@@ -13,53 +13,53 @@ add-two c = search needs
 add-three : tie.Need-add-three
 add-three c = search needs
 
-sub-write-entry : tie.Need-sub-write-entry
-sub-write-entry c = search needs
+sub-discharge-entry : tie.Need-sub-discharge-entry
+sub-discharge-entry c = search needs
 
-part-write-entry-start : tie.Need-part-write-entry-start
-part-write-entry-start c = search needs
+part-discharge-entry-start : tie.Need-part-discharge-entry-start
+part-discharge-entry-start c = search needs
 
-part-write-entry-end : tie.Need-part-write-entry-end
-part-write-entry-end c = search needs
+part-discharge-entry-end : tie.Need-part-discharge-entry-end
+part-discharge-entry-end c = search needs
 
-write-entry-requires : tie.Need-write-entry-requires
-write-entry-requires c κs = search needs
+discharge-entry-requires : tie.Need-discharge-entry-requires
+discharge-entry-requires c κs = search needs
 
-mul-write-entry : tie.Need-mul-write-entry
-mul-write-entry c = search needs
+mul-discharge-entry : tie.Need-mul-discharge-entry
+mul-discharge-entry c = search needs
 
-sub-write-entry-2 : tie.Need-sub-write-entry-2
-sub-write-entry-2 c = search needs
+sub-discharge-entry-2 : tie.Need-sub-discharge-entry-2
+sub-discharge-entry-2 c = search needs
 
-part-write-entry-start-2 : tie.Need-part-write-entry-start-2
-part-write-entry-start-2 c = search needs
+part-discharge-entry-start-2 : tie.Need-part-discharge-entry-start-2
+part-discharge-entry-start-2 c = search needs
 
-part-write-entry-end-2 : tie.Need-part-write-entry-end-2
-part-write-entry-end-2 c = search needs
+part-discharge-entry-end-2 : tie.Need-part-discharge-entry-end-2
+part-discharge-entry-end-2 c = search needs
 
-write-entry-requires-2 : tie.Need-write-entry-requires-2
-write-entry-requires-2 c κs = search needs
+discharge-entry-requires-2 : tie.Need-discharge-entry-requires-2
+discharge-entry-requires-2 c κs = search needs
 
-mul-write-entry-2 : tie.Need-mul-write-entry-2
-mul-write-entry-2 c = search needs
+mul-discharge-entry-2 : tie.Need-mul-discharge-entry-2
+mul-discharge-entry-2 c = search needs
 
-sub-write-entry-3 : tie.Need-sub-write-entry-3
-sub-write-entry-3 c = search needs
+sub-discharge-entry-3 : tie.Need-sub-discharge-entry-3
+sub-discharge-entry-3 c = search needs
 
-part-write-entry-start-3 : tie.Need-part-write-entry-start-3
-part-write-entry-start-3 c = search needs
+part-discharge-entry-start-3 : tie.Need-part-discharge-entry-start-3
+part-discharge-entry-start-3 c = search needs
 
-part-write-entry-end-3 : tie.Need-part-write-entry-end-3
-part-write-entry-end-3 c = search needs
+part-discharge-entry-end-3 : tie.Need-part-discharge-entry-end-3
+part-discharge-entry-end-3 c = search needs
 
-write-entry-requires-3 : tie.Need-write-entry-requires-3
-write-entry-requires-3 c κs = search needs
+discharge-entry-requires-3 : tie.Need-discharge-entry-requires-3
+discharge-entry-requires-3 c κs = search needs
 
 same-length : tie.Need-same-length
 same-length c = search needs
 
 returns : tie.Need-returns
-returns c = (cc, all-written _ _ _ _ _ (c .before .before .before .before .before .before .before .before .before .before .write-entry .ensures .1) (c .before .before .before .before .before .before .write-entry2 .ensures .1) (c .before .before .write-entry3 .ensures .1))
+returns c = (cc, all-written _ _ _ _ _ (c .before .before .before .before .before .before .before .before .before .before .discharge-entry .ensures .1) (c .before .before .before .before .before .before .discharge-entry2 .ensures .1) (c .before .before .discharge-entry3 .ensures .1))
 
 pub write-spec : {M : Type 1} → statement M
 write-spec =
@@ -68,19 +68,19 @@ write-spec =
     cast-one
     add-two
     add-three
-    sub-write-entry
-    part-write-entry-start
-    part-write-entry-end
-    write-entry-requires
-    mul-write-entry
-    sub-write-entry-2
-    part-write-entry-start-2
-    part-write-entry-end-2
-    write-entry-requires-2
-    mul-write-entry-2
-    sub-write-entry-3
-    part-write-entry-start-3
-    part-write-entry-end-3
-    write-entry-requires-3
+    sub-discharge-entry
+    part-discharge-entry-start
+    part-discharge-entry-end
+    discharge-entry-requires
+    mul-discharge-entry
+    sub-discharge-entry-2
+    part-discharge-entry-start-2
+    part-discharge-entry-end-2
+    discharge-entry-requires-2
+    mul-discharge-entry-2
+    sub-discharge-entry-3
+    part-discharge-entry-start-3
+    part-discharge-entry-end-3
+    discharge-entry-requires-3
     same-length
     returns)
