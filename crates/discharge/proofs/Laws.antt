@@ -2,59 +2,24 @@
 use Prim.Native.Nat.{ℕ, _+_, _-_, _*_, _≤_, _<_}
 use native.Mathlib.Omega.{arith}
 use native.Mathlib.Nat.{sub-zero}
-use mathlib.Core.Bool.{Bool, true, false}
 use mathlib.Core.Path.{_≡_, refl, ap, sym, _∙_}
 use mathlib.Core.List.{List, [], _∷_, _++_, append-assoc}
 use lib.Dec.{leb}
 use lib.ListN.{length, take, drop, length-append}
 use lib.Seq.{take-at, drop-at, drop-drop}
-use borrow.Author.Tests.{le-leb, lt-leb, leb-true}
-use Rattle.refusal.specs.Refusal.{Or, refused, ok, need, need-passed, need-rest, andThen}
+use borrow.Author.Tests.{leb-true}
+use Rattle.refusal.specs.Refusal.{ok}
 use Rattle.segment.specs.declared.Segment.{Segment}
 use Rattle.validation.specs.declared.Checked.{Checked}
 use Rattle.validation.specs.declared.Checked.the-variants.{Refused, Valid}
-use Rattle.validation.specs.Validation.{checkOf, checkedOf}
-use Rattle.validation.specs.Ranges.{Ranges, accepted}
+use Rattle.validation.specs.Validation.{checkedOf}
+use Rattle.validation.specs.Accepting.{checked-refused, checked-valid, accept-passed}
+use Rattle.validation.specs.Ranges.{Ranges, Accepted}
 use Rattle.discharge.specs.declared.Discharged.{Discharged}
 use Rattle.discharge.specs.declared.Discharged.the-variants as d
 use Rattle.entries.specs.Entries.{entryProfile}
 use Rattle.entries.specs.Laws.{entry-length}
 use Rattle.discharge.specs.Discharge.{acceptOf, answerOf, written, profileAfter, Calls}
-
--- an answer of a check is the definition's
-pub checked-refused : (x : Or Segment) (n : ℕ) → checkedOf x ≡ Refused n → x ≡ refused n
-checked-refused (refused m) n e = cc
-checked-refused (ok s) n e = cc
-
-pub checked-valid : (x : Or Segment) (s : Segment) → checkedOf x ≡ Valid s → x ≡ ok s
-checked-valid (refused m) s e = cc
-checked-valid (ok t) s e = cc
-
-module _ (l : List ℕ) (room : ℕ) where
-  pub accept-refused : (n : ℕ) → checkedOf (checkOf l) ≡ Refused n → Refused n ≡ checkedOf (acceptOf l room)
-  unfolding acceptOf
-  accept-refused n e = rw (checked-refused (checkOf l) n e)
-
-  pub accept-short : (s : Segment) → checkedOf (checkOf l) ≡ Valid s → room < 3 * s .cycle → Refused 16 ≡ checkedOf (acceptOf l room)
-  unfolding acceptOf need
-  accept-short s e h = rw (checked-valid (checkOf l) s e, lt-leb (3 * s .cycle) room h)
-
-  pub accept-valid : (s : Segment) → checkedOf (checkOf l) ≡ Valid s → 3 * s .cycle ≤ room → Valid s ≡ checkedOf (acceptOf l room)
-  unfolding acceptOf need
-  accept-valid s e h = rw (checked-valid (checkOf l) s e, le-leb (3 * s .cycle) room h)
-
-  -- what was accepted is in its ranges and has room
-  pub accepted-room : (s : Segment) → acceptOf l room ≡ ok s → Ranges s × (3 * s .cycle ≤ room)
-  unfolding acceptOf
-  accepted-room s e = go (checkOf l) refl e
-    where
-      go : (x : Or Segment) → checkOf l ≡ x → andThen x (λ t. need 16 (leb (3 * t .cycle) room) (ok t)) ≡ ok s → Ranges s × (3 * s .cycle ≤ room)
-      go (refused n) q f = let z : _≡_ {A = ℕ} 0 1 = cc in absurd (omega arith)
-      go (ok t) q f =
-          let r = need-rest 16 (leb (3 * t .cycle) room) (ok t) s f in
-          let same : t ≡ s = cc in
-          let k = leb-true (3 * t .cycle) room (need-passed 16 (leb (3 * t .cycle) room) (ok t) s f) in
-          (accepted l s (q ∙ ap (λ (u : Segment). ok u) same) .ranges, (rw same at k))
 
 -- three runs lent one after the other
 module _ (c : ℕ) (p y1 y2 y3 : List ℕ) (l1 : length y1 ≡ c) (l2 : length y2 ≡ c) where
@@ -96,7 +61,9 @@ module _ (l p : List ℕ) where
       record { answer = rw q; profile = rw q }
 
   pub asks : (s : Segment) → checkedOf (acceptOf l (length p)) ≡ Valid s → Ranges s × (3 * s .cycle ≤ length p)
-  asks s e = accepted-room l (length p) s (checked-valid (acceptOf l (length p)) s e)
+  asks s e =
+      let a = accept-passed l (λ t. leb (3 * t .cycle) (length p)) s (checked-valid (acceptOf l (length p)) s e) in
+      (a .0 .ranges, leb-true (3 * s .cycle) (length p) (a .1))
 
   pub writes : (s : Segment) → checkedOf (acceptOf l (length p)) ≡ Valid s → (r : Discharged) (p′ : List ℕ) → r ≡ answerOf (ok s) → p′ ≡ written s p →
       Calls l p r p′

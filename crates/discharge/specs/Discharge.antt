@@ -4,17 +4,17 @@ use mathlib.Core.Path.{_≡_}
 use mathlib.Core.List.{List, _++_}
 use lib.Dec.{leb}
 use lib.ListN.{length, drop}
-use Rattle.refusal.specs.Refusal.{Or, refused, ok, need, andThen}
+use Rattle.refusal.specs.Refusal.{Or, refused, ok}
 use Rattle.segment.specs.declared.Segment.{Segment}
-use Rattle.validation.specs.Validation.{checkOf}
+use Rattle.validation.specs.Accepting.{acceptWith}
 use Rattle.metering.specs.Metering.{discharged}
 use Rattle.entries.specs.Entries.{entryProfile}
 use Rattle.discharge.specs.declared.Discharged.{Discharged}
 use Rattle.discharge.specs.declared.Discharged.the-variants.{Refused, Volumes}
 
 -- the places record and lent profiles, and no other
-unfoldable pub acceptOf : List ℕ → ℕ → Or Segment
-acceptOf l room = andThen (checkOf l) (λ s. need 16 (leb (3 * s .cycle) room) (ok s))
+abbrev pub acceptOf : List ℕ → ℕ → Or Segment
+acceptOf l room = acceptWith l (λ s. leb (3 * s .cycle) room)
 
 -- the answer's cases: the paper's number, or the three discharge volumes
 abbrev pub answerOf : Or Segment → Discharged

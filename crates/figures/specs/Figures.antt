@@ -16,6 +16,7 @@ use Rattle.validation.specs.Validation.{cycleFits, runningFits, headwayFits, vo
 use Rattle.metering.specs.Metering.{capacity, discharged}
 use Rattle.platoon.specs.Discharge.{carried, onGreen, received, servedOf, served, queueOf, greenFlows, profileOf}
 use Rattle.entries.specs.Entries.{entryProfile}
+use Rattle.validation.specs.Accepting.{acceptWith}
 use Rattle.discharge.specs.Discharge.{acceptOf, written, profileAfter}
 use Rattle.figures.specs.Cards.{throughEntry}
 
@@ -43,5 +44,5 @@ pub figures :
     ∷ (2 ∷ 3 ∷ 2 ∷ 3 ∷ [])
     ∷ (replicate 15 1800000 ++ (replicate 15 600000 ++ replicate 30 0))
     ∷ []
-unfolding computed tab turn greenStep greenSteps capacity received landing landed need word2 word4 greenOf greensOf entryOf volumesOf rowOf tableOf zeroSeeds seedsOf segmentOf cycleFits runningFits headwayFits volumesFit greensFit seedsAdd checkOf discharged carried onGreen servedOf served queueOf greenFlows profileOf entryProfile acceptOf written
+unfolding computed tab turn greenStep greenSteps capacity received landing landed need word2 word4 greenOf greensOf entryOf volumesOf rowOf tableOf zeroSeeds seedsOf segmentOf cycleFits runningFits headwayFits volumesFit greensFit seedsAdd checkOf discharged carried onGreen servedOf served queueOf greenFlows profileOf entryProfile acceptWith written
 figures = refl

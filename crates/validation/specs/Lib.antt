@@ -1,2 +1,3 @@
 pub mod Validation
 pub mod Ranges
+pub mod Accepting

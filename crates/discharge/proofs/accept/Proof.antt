@@ -1,6 +1,7 @@
 use mathlib.Core.Path.{_∙_, sym}
 use native.Mathlib.Omega.{arith}
-use Rattle.discharge.proofs.Laws.{accept-refused, accept-short, accept-valid}
+use borrow.Author.Tests.{le-leb, lt-leb}
+use Rattle.validation.specs.Accepting.{accept-refused, accept-short, accept-valid}
 use borrow.Author.Needs.{needs}
 use Rattle.discharge.proofs.accept.Statement.{statement}
 use Rattle.discharge.proofs.accept.Tie as tie
@@ -21,13 +22,13 @@ mul-if1 : tie.Need-mul-if1
 mul-if1 c = search needs
 
 returns : tie.Need-returns
-returns c = accept-short _ _ _ (sym (c .before .before .before .before .before .check .ensures) ∙ c .before .before .before .checked2 .given .1) (c .if1 .taken)
+returns c = accept-short _ _ _ (sym (c .before .before .before .before .before .check .ensures) ∙ c .before .before .before .checked2 .given .1) (lt-leb _ _ (c .if1 .taken))
 
 returns-2 : tie.Need-returns-2
 returns-2 c = accept-refused _ _ _ (sym (c .before .before .before .check .ensures) ∙ c .before .checked .given .1)
 
 returns-3 : tie.Need-returns-3
-returns-3 c = accept-valid _ _ _ (sym (c .before .before .before .before .before .check .ensures) ∙ c .before .before .before .checked2 .given .1) (c .if1 .left)
+returns-3 c = accept-valid _ _ _ (sym (c .before .before .before .before .before .check .ensures) ∙ c .before .before .before .checked2 .given .1) (le-leb _ _ (c .if1 .left))
 
 pub accept-spec : {M : Type 1} → statement M
 accept-spec =
