@@ -1,0 +1,134 @@
+-- Adding's answers, by what opening answered and by each test in turn.
+use Prim.Native.Nat.{ℕ, _+_, _*_, _≤_, _<_}
+use native.Mathlib.Nat.{mul-le-mul, zero-add}
+use native.Mathlib.Omega.{arith}
+use mathlib.Core.Path.{_≡_, sym, ap, _∙_}
+use mathlib.Core.Bool.{true, false, _&&_}
+use mathlib.Core.List.{List, [], _∷_, _++_, append-assoc, append-nil}
+use lib.Dec.{leb}
+use lib.ListN.{length, take, drop, length-append}
+use lib.Seq.{take-at}
+use borrow.Author.Tests.{leb-true, le-leb, lt-leb, lt-ltb, le-ltb, eq-eqb, ne-eqb}
+use Rattle.refusal.specs.Refusal.{refused, ok, need}
+use Rattle.octets.specs.Octets.{word4, bytes2}
+use Rattle.archive_format.specs.declared.Edition.{Edition}
+use Rattle.archive_format.specs.declared.Answer.the-variants.{Is, Refused}
+use Rattle.archive_format.specs.Archive.{Filed, Sized, body, places, encode, printables, filedFrom, decode, single, addTo, addOf}
+use Rattle.archive_format.specs.Reading.{both}
+use Rattle.archive_format.specs.Words.{Bytes}
+use Rattle.archive_format.specs.Decoded.{Shaped, Fit, decoded-is-fit, body-laid, places-laid}
+use Rattle.archive_format.specs.Encoded.{length-places, length-encode}
+use Rattle.archive_format.specs.Sizes.{body-bound}
+use Rattle.archive_format.specs.Building.{body-append}
+use Rattle.archive_read.specs.declared.opening.Opened.the-variants.{Invalid}
+use Rattle.archive_read.specs.Opening.{openedOf, invalid, Held, held-run, held-fits}
+use Rattle.archive_add.specs.Writing.{putAt, Wrote, recordBytes, grown, Adds}
+use Rattle.archive_add.proofs.Parts.{record-length}
+
+-- ---- the encoding of one record more
+
+body-more : (fs : List Filed) (b t : List ℕ) → body (fs ++ single b t) ≡ body fs ++ recordBytes b t
+unfolding body
+body-more fs b t = body-append fs (single b t) ∙ rw (append-nil t)
+
+places-more : (size p : ℕ) (fs : List Filed) (b t : List ℕ) → Shaped size fs → places size p (fs ++ single b t) ≡ places size p fs ++ bytes2 (p + length (body fs))
+unfolding places body
+places-more size p [] b t s = let e : p ≡ p + 0 = omega arith in ap (λ (z : ℕ). bytes2 z) e
+places-more size p (f ∷ fs) b t s =
+    let e : p + size + 1 + length (f .title) + length (body fs) ≡ p + length (f .bytes ++ (length (f .title) ∷ (f .title ++ body fs))) = simp length-append (omega (arith, s .0)) in
+    ap (λ (z : List ℕ). bytes2 p ++ z)
+    (places-more size (p + size + 1 + length (f .title)) fs b t (s .2)
+    ∙ ap (λ (z : ℕ). places size (p + size + 1 + length (f .title)) fs ++ bytes2 z) e)
+
+module _ (e : Edition) (l : List ℕ) {count t last : ℕ} (h : Held e l count t last) where
+  counted : count ≡ length (h .fs)
+  counted = h .count-is ∙ h .read .count
+
+  reached : t ≡ length (body (h .fs))
+  reached = h .trailer-is ∙ h .read .trailer
+
+  fit : Fit e (h .fs)
+  fit = decoded-is-fit e l (h .fs) (h .is)
+
+  -- two bytes hold the new trailer's place
+  pub held-next : (n : ℕ) → Sized (e .size) → count < 512 → n ≤ 40 → t + e .size + 1 + n < 65536
+  held-next n k m s =
+      let b : t ≤ count * (e .size + 41) = rw (counted, reached) (body-bound (e .size) (h .fs) (fit .shaped)) in
+      let c : count + 1 ≤ 512 = omega arith in
+      let w : e .size + 41 ≤ 127 = omega arith in
+      omega (arith, mul-le-mul c w)
+
+  module _ (b ti : List ℕ) where
+    body-length : length (body (h .fs ++ single b ti)) ≡ t + length (recordBytes b ti)
+    body-length = rw (body-more (h .fs) b ti, length-append (body (h .fs)) (recordBytes b ti), reached)
+
+    more-count : length (h .fs ++ single b ti) ≡ count + 1
+    more-count = simp length-append (omega (arith, counted))
+
+    more-length : length b ≡ e .size → length (encode e (h .fs ++ single b ti)) ≡ t + e .size + 1 + length ti + 2 * count + 8
+    more-length sized = omega (arith, length-encode e (h .fs ++ single b ti), body-length, record-length b ti, more-count, sized)
+
+    -- what is written is the encoding
+    grown-is : Bytes l → grown e l count t b ti ≡ encode e (h .fs ++ single b ti)
+    unfolding grown encode
+    grown-is hb =
+        let w : t ≤ length l = omega (arith, held-fits e l h) in
+        let w2 : t + 2 * count ≤ length l = omega (arith, held-fits e l h) in
+        let held : filedFrom (e .size) count l 0 ≡ h .fs = rw (h .count-is) (h .read .held) in
+        let bl : l ≡ body (h .fs) ++ drop t l = rw held at (body-laid (e .size) count l t 0 t w (held-run e l h)) in
+        let pl : drop t l ≡ places (e .size) 0 (h .fs) ++ drop (t + 2 * count) l = rw held at (places-laid (e .size) count l t 0 t hb w w2 (held-run e l h)) in
+        let bt : take t l ≡ body (h .fs) = ap (λ (z : List ℕ). take t z) bl ∙ take-at (body (h .fs)) (drop t l) t (sym reached) in
+        let lp : length (places (e .size) 0 (h .fs)) ≡ 2 * count = length-places (e .size) 0 (h .fs) ∙ ap (λ (z : ℕ). 2 * z) (sym counted) in
+        let pt : take (2 * count) (drop t l) ≡ places (e .size) 0 (h .fs) = ap (λ (z : List ℕ). take (2 * count) z) pl ∙ take-at (places (e .size) 0 (h .fs)) (drop (t + 2 * count) l) (2 * count) lp in
+        let z : 0 + length (body (h .fs)) ≡ t = omega (arith, reached) in
+        rw (bt, pt, more-count, body-length, body-more (h .fs) b ti, places-more (e .size) 0 (h .fs) b ti (fit .shaped), z) (simp append-assoc)
+
+-- ---- the answers
+
+pub short-title : (ti : List ℕ) → (leb (length ti) 40 && printables ti) ≡ true → length ti ≤ 40
+short-title ti f = leb-true _ _ (both _ _ f .0)
+
+module _ (e : Edition) (l b ti out : List ℕ) where
+  no : (n : ℕ) → addOf e l b ti (length out) ≡ refused n → Adds e l b ti out (Refused n) out
+  no n r = record { answer = sym (rw r); buffer = sym (rw r) }
+
+  pub add-invalid : (n : ℕ) → openedOf (decode e l) ≡ Invalid n → Adds e l b ti out (Refused n) out
+  unfolding addOf
+  add-invalid n o = no n (rw (invalid e l n o))
+
+  module _ {count t last : ℕ} (h : Held e l count t last) where
+    pub add-sized : (length b ≡ e .size → ⊥) → Adds e l b ti out (Refused 6) out
+    unfolding addOf addTo need
+    add-sized f = no 6 (rw (h .is, ne-eqb _ _ f))
+
+    module _ (sized : length b ≡ e .size) where
+      pub add-untitled : (leb (length ti) 40 && printables ti) ≡ false → Adds e l b ti out (Refused 4) out
+      unfolding addOf addTo need
+      add-untitled f = no 4 (rw (h .is, eq-eqb _ _ sized, f))
+
+      module _ (fits : (leb (length ti) 40 && printables ti) ≡ true) where
+        pub add-low : word4 b 0 ≤ last → Adds e l b ti out (Refused 5) out
+        unfolding addOf addTo need
+        add-low f = no 5 (rw (h .is, eq-eqb _ _ sized, fits, ← h .last-is, le-ltb _ _ f))
+
+        module _ (above : last < word4 b 0) where
+          pub add-narrow : length out < t + e .size + 1 + length ti + 2 * count + 8 → Adds e l b ti out (Refused 17) out
+          unfolding addOf addTo need
+          add-narrow f = no 17 (rw (h .is, eq-eqb _ _ sized, fits, ← h .last-is, lt-ltb _ _ above, more-length e l h b ti sized, lt-leb _ _ f))
+
+          module _ (room : t + e .size + 1 + length ti + 2 * count + 8 ≤ length out) where
+            pub add-full : 512 ≤ count → Adds e l b ti out (Refused 18) out
+            unfolding addOf addTo need
+            add-full f = no 18 (rw (h .is, eq-eqb _ _ sized, fits, ← h .last-is, lt-ltb _ _ above, more-length e l h b ti sized, le-leb _ _ room, ← counted e l h, le-ltb _ _ f))
+
+            pub add-done : Bytes l → count < 512 → {r : ℕ} {out′ : List ℕ} → Wrote out 0 (grown e l count t b ti) out′ r → Adds e l b ti out (Is r) out′
+            unfolding addOf addTo need putAt
+            add-done hb f {r} {out′} w =
+                let y : addOf e l b ti (length out) ≡ ok (encode e (h .fs ++ single b ti)) =
+                rw (h .is, eq-eqb _ _ sized, fits, ← h .last-is, lt-ltb _ _ above, more-length e l h b ti sized, le-leb _ _ room, ← counted e l h, lt-ltb _ _ f) in
+                let g : grown e l count t b ti ≡ encode e (h .fs ++ single b ti) = grown-is e l h b ti hb in
+                let v : Wrote out 0 (encode e (h .fs ++ single b ti)) out′ r = rw g at w in
+                record {
+                  answer = rw y (ap (λ (z : ℕ). Is z) (v .place ∙ zero-add (length (encode e (h .fs ++ single b ti)))));
+                  buffer = rw y (v .buffer ∙ rw zero-add);
+                }

@@ -1,0 +1,108 @@
+use Prim.Native.Nat.{_≤_}
+use native.Mathlib.Omega.{arith}
+use mathlib.Core.Path.{sym, _∙_}
+use lib.ListN.{length}
+use borrow.Author.Tests.{not-true, not-false}
+use borrow.Author.Needs.{needs}
+use Rattle.archive_read.specs.Opening.{Held, held, held-fits}
+use Rattle.archive_add.proofs.Answers.{held-next, short-title, add-invalid, add-sized, add-untitled, add-low, add-narrow, add-full, add-done}
+use Rattle.archive_add.proofs.add_in.Statement.{statement}
+use Rattle.archive_add.proofs.add_in.Tie as tie
+
+here : (c : tie.After-o2) → Held (c .before .before .before .before .before .before .before .args .e) (c .before .before .before .before .before .before .before .args .s .now) (c .o2 .given .0 .0) (c .o2 .given .0 .1 .0) (c .o2 .given .0 .1 .1 .0)
+here c = held (sym (c .before .before .open .ensures) ∙ c .o2 .given .1)
+
+title : (c : tie.Else2) → length (c .before .before .before .before .before .before .before .before .before .before .before .before .args .title .now) ≤ 40
+title c = short-title (c .before .before .before .before .before .before .before .before .before .before .before .before .args .title .now) (sym (c .before .before .title-fits .ensures) ∙ not-false _ (c .if2 .left))
+
+open-requires : tie.Need-open-requires
+open-requires c κs = search needs
+
+enum-known-o : tie.Need-enum-known-o
+enum-known-o c = search needs
+
+returns : tie.Need-returns
+returns c = add-invalid _ _ _ _ _ _ (sym (c .before .before .before .open .ensures) ∙ c .before .o .given .1)
+
+enum-known-o-2 : tie.Need-enum-known-o-2
+enum-known-o-2 c = search needs
+
+returns-2 : tie.Need-returns-2
+returns-2 c = add-sized _ _ _ _ _ (here (c .before .before)) (c .if1 .taken)
+
+title-fits-requires : tie.Need-title-fits-requires
+title-fits-requires c κs = search needs
+
+word4-at-requires : tie.Need-word4-at-requires
+word4-at-requires c κs = search needs
+
+returns-3 : tie.Need-returns-3
+returns-3 c = add-untitled _ _ _ _ _ (here (c .before .before .before .before .before)) (c .before .before .before .if1 .left) (sym (c .before .before .title-fits .ensures) ∙ not-true _ (c .if2 .taken))
+
+returns-4 : tie.Need-returns-4
+returns-4 c = add-low _ _ _ _ _ (here (c .before .before .before .before .before .before)) (c .before .before .before .before .if1 .left) (sym (c .before .before .before .title-fits .ensures) ∙ not-false _ (c .before .if2 .left)) (omega (arith, c .before .before .word4-at .ensures, c .if3 .taken))
+
+add-length : tie.Need-add-length
+add-length c = omega (arith, held-fits _ _ (here (c .before .before .before .before .before .before)), title (c .before), c .before .before .before .before .before .before .before .before .before .before .before .before .before .good)
+
+add-length-2 : tie.Need-add-length-2
+add-length-2 c = omega (arith, held-fits _ _ (here (c .before .before .before .before .before .before)), title (c .before), c .before .before .before .before .before .before .before .before .before .before .before .before .before .good)
+
+add-length-3 : tie.Need-add-length-3
+add-length-3 c = omega (arith, held-fits _ _ (here (c .before .before .before .before .before .before)), title (c .before), c .before .before .before .before .before .before .before .before .before .before .before .before .before .good)
+
+mul-length : tie.Need-mul-length
+mul-length c = omega (arith, held-fits _ _ (here (c .before .before .before .before .before .before)), title (c .before), c .before .before .before .before .before .before .before .before .before .before .before .before .before .good)
+
+add-length-4 : tie.Need-add-length-4
+add-length-4 c = omega (arith, held-fits _ _ (here (c .before .before .before .before .before .before)), title (c .before), c .before .before .before .before .before .before .before .before .before .before .before .before .before .good)
+
+add-length-5 : tie.Need-add-length-5
+add-length-5 c = omega (arith, held-fits _ _ (here (c .before .before .before .before .before .before)), title (c .before), c .before .before .before .before .before .before .before .before .before .before .before .before .before .good)
+
+returns-5 : tie.Need-returns-5
+returns-5 c = add-narrow _ _ _ _ _ (here (c .before .before .before .before .before .before .before)) (c .before .before .before .before .before .if1 .left) (sym (c .before .before .before .before .title-fits .ensures) ∙ not-false _ (c .before .before .if2 .left)) (omega (arith, c .before .before .before .word4-at .ensures, c .before .if3 .left)) (c .if4 .taken)
+
+returns-6 : tie.Need-returns-6
+returns-6 c = add-full _ _ _ _ _ (here (c .before .before .before .before .before .before .before .before)) (c .before .before .before .before .before .before .if1 .left) (sym (c .before .before .before .before .before .title-fits .ensures) ∙ not-false _ (c .before .before .before .if2 .left)) (omega (arith, c .before .before .before .before .word4-at .ensures, c .before .before .if3 .left)) (c .before .if4 .left) (c .if5 .taken)
+
+grow-requires : tie.Need-grow-requires
+grow-requires c κs =
+    record {
+      few = search needs;
+      short = omega (arith, title (c .before .before .before .before));
+      placed = omega (arith, held-next _ _ (here (c .before .before .before .before .before .before .before .before .before)) (length (c .before .before .before .before .before .before .before .before .before .before .before .before .before .before .before .before .args .title .now)) (c .before .before .before .before .before .before .before .before .before .before .before .before .before .before .before .before .pre) (search needs) (title (c .before .before .before .before)), c .before .before .before .before .before .before .before .if1 .left);
+      held = omega (arith, held-fits _ _ (here (c .before .before .before .before .before .before .before .before .before)));
+      enough = omega (arith, c .before .before .if4 .left, c .before .before .before .before .before .before .before .if1 .left);
+    }
+
+same-length : tie.Need-same-length
+same-length c = search needs
+
+returns-7 : tie.Need-returns-7
+returns-7 c = add-done _ _ _ _ _ (here (c .before .before .before .before .before .before .before .before .before .before .before .before)) (c .before .before .before .before .before .before .before .before .before .before .if1 .left) (sym (c .before .before .before .before .before .before .before .before .before .title-fits .ensures) ∙ not-false _ (c .before .before .before .before .before .before .before .if2 .left)) (omega (arith, c .before .before .before .before .before .before .before .before .word4-at .ensures, c .before .before .before .before .before .before .if3 .left)) (c .before .before .before .before .before .if4 .left) (λ i. c .before .before .before .before .before .before .before .before .before .before .before .before .before .before .before .before .before .before .shared-slice-known .given i .fits) (search needs) (c .before .before .grow .ensures)
+
+pub add-in-spec : {M : Type 1} → statement M
+add-in-spec =
+    tie.close
+    (tie.spec
+    open-requires
+    enum-known-o
+    returns
+    enum-known-o-2
+    returns-2
+    title-fits-requires
+    word4-at-requires
+    returns-3
+    returns-4
+    add-length
+    add-length-2
+    add-length-3
+    mul-length
+    add-length-4
+    add-length-5
+    returns-5
+    returns-6
+    grow-requires
+    same-length
+    returns-7)

@@ -1,0 +1,42 @@
+-- Bytes written into a buffer, and the parts of an archive as they are written.
+use Prim.Native.Nat.{ℕ, _+_, _*_, _≤_, _<_}
+use mathlib.Core.Path.{_≡_}
+use mathlib.Core.List.{List, [], _∷_, _++_}
+use lib.ListN.{length, take, drop}
+use Rattle.octets.specs.Octets.{bytes2}
+use Rattle.archive_format.specs.declared.Edition.{Edition}
+use Rattle.archive_format.specs.declared.Answer.{Answer}
+use Rattle.archive_format.specs.Archive.{addOf, newLength, overwrite}
+
+-- a buffer with other bytes from a place on
+unfoldable pub putAt : List ℕ → ℕ → List ℕ → List ℕ
+putAt d at s = take at d ++ (s ++ drop (at + length s) d)
+
+-- what was written to d from a place on: the buffer afterwards, and the next place
+pub record Wrote (d : List ℕ) (at : ℕ) (s out : List ℕ) (next : ℕ) : Type 0 where
+  pub place : next ≡ at + length s
+  pub buffer : out ≡ putAt d at s
+
+abbrev pub recordBytes : List ℕ → List ℕ → List ℕ
+recordBytes b t = b ++ (length t ∷ t)
+
+abbrev pub endBytes : Edition → ℕ → ℕ → List ℕ
+endBytes e count trailer = bytes2 count ++ (bytes2 trailer ++ (e .first ∷ e .second ∷ []))
+
+-- an archive that was read, with one record more: of the old one, the records before its trailer at t and its places
+unfoldable pub grown : Edition → List ℕ → ℕ → ℕ → List ℕ → List ℕ → List ℕ
+grown e l count t b ti =
+    take t l ++ (recordBytes b ti ++ (take (2 * count) (drop t l) ++ (bytes2 t ++ endBytes e (count + 1) (t + length (recordBytes b ti)))))
+
+-- what writing it asks, by the lengths of the old archive, the record, the title and the buffer
+pub record Fits (count t old segment title room : ℕ) : Type 0 where
+  pub few : count < 512
+  pub short : title < 256
+  pub placed : t + segment + 1 + title < 65536
+  pub held : t + 2 * count ≤ old
+  pub enough : t + segment + 1 + title + 2 * count + 8 ≤ room
+
+-- adding's answer, and the buffer afterwards
+pub record Adds (e : Edition) (l b t out : List ℕ) (r : Answer) (out′ : List ℕ) : Type 0 where
+  pub answer : r ≡ newLength (addOf e l b t (length out))
+  pub buffer : out′ ≡ overwrite (addOf e l b t (length out)) out

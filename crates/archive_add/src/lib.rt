@@ -1,0 +1,89 @@
+// Adding a record to an archive: the old archive and one record more are written to a second buffer.
+mod writing;
+
+ghost use mathlib.Core.Path.{_≡_};
+ghost use mathlib.Core.Bool.{_&&_};
+ghost use lib.Dec.{leb};
+ghost use lib.ListN.{length};
+ghost use Rattle.archive_format.specs.Archive.{Sized, printables, addOf, newLength, overwrite, segments};
+ghost use Rattle.archive_add.specs.Writing.{Wrote, grown, Fits, Adds};
+use archive_format::Answer;
+use archive_format::Edition;
+use archive_format::SEGMENTS;
+use archive_read::opening;
+use opening::Opened;
+
+// A title of at most 40 bytes from 32 to 126.
+fn title_fits(title: &[u8]) -> bool
+    ensures { λ r. ⌜ r ≡ (leb (length (now (title .entry))) 40 && printables (now (title .entry))) ⌝ }
+{
+    let clean = opening::printable(title);
+    (title.len() <= 40) & clean
+}
+
+// Writes an archive that was read, with one record more: the old records, the new one, the old places, the new one's, the end.
+fn grow(
+    e: Edition,
+    s: &[u8],
+    count: usize,
+    t: usize,
+    segment: &[u8],
+    title: &[u8],
+    out: &mut [u8],
+) -> usize
+    requires { ⌜ Fits count t (length (now s)) (length (now segment)) (length (now title)) (length (now out)) ⌝ }
+    ensures { λ r. ⌜ Wrote (now (out .entry)) 0 (grown e (now (s .entry)) count t (now (segment .entry)) (now (title .entry))) (now (out .exit)) r ⌝ }
+{
+    let a = writing::put(out, 0, &s[0..t]);
+    let next = writing::put_record(out, a, segment, title);
+    let b = writing::put(out, next, &s[t..t + 2 * count]);
+    let c = writing::put_place(out, b, t);
+    writing::put_end(e, out, c, count + 1, next)
+}
+
+fn add_in(e: Edition, s: &[u8], segment: &[u8], title: &[u8], out: &mut [u8]) -> Answer
+    requires { ⌜ Sized (e .size) ⌝ }
+    ensures { λ r. ⌜ Adds e (now (s .entry)) (now (segment .entry)) (now (title .entry)) (now (out .entry)) r (now (out .exit)) ⌝ }
+{
+    let size = e.size;
+    let o = opening::open(e, s);
+    match o {
+        Opened::Invalid(n) => {
+            return Answer::Refused(n);
+        }
+        Opened::Valid {
+            count,
+            trailer,
+            last,
+        } => {
+            if segment.len() != size {
+                return Answer::Refused(6);
+            }
+            let fits = title_fits(title);
+            let number = octets::word4_at(segment, 0);
+            if !fits {
+                return Answer::Refused(4);
+            }
+            if number <= last {
+                return Answer::Refused(5);
+            }
+            let length = trailer + size + 1 + title.len() + 2 * count + 8;
+            if out.len() < length {
+                return Answer::Refused(17);
+            }
+            if 512 <= count {
+                return Answer::Refused(18);
+            }
+            let n = grow(e, s, count, trailer, segment, title, out);
+            return Answer::Is(n);
+        }
+    }
+}
+
+// Writes the archive with one record more to the buffer and returns its length; a refusal writes nothing, and bytes beyond stay.
+pub fn add(archive: &[u8], segment: &[u8], title: &[u8], buffer: &mut [u8]) -> Answer
+    ensures { λ r. ⌜ r ≡ newLength (addOf segments (now (archive .entry)) (now (segment .entry)) (now (title .entry)) (length (now (buffer .entry)))) ⌝ }
+    ensures { λ _. ⌜ now (buffer .exit) ≡ overwrite (addOf segments (now (archive .entry)) (now (segment .entry)) (now (title .entry)) (length (now (buffer .entry)))) (now (buffer .entry)) ⌝ }
+{
+    add_in(SEGMENTS, archive, segment, title, buffer)
+}

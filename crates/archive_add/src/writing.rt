@@ -1,0 +1,68 @@
+// Writing bytes into a lent buffer, each function from a place on; it returns the place after them.
+// A lower layer's functions: each asks of its caller that the bytes fit.
+ghost use mathlib.Core.Path.{_≡_};
+ghost use Prim.Native.Nat.{_+_, _/_, _%_, _≤_, _<_};
+ghost use lib.ListN.{length};
+ghost use Rattle.octets.specs.Octets.{bytes2};
+ghost use Rattle.archive_add.specs.Writing.{Wrote, recordBytes, endBytes};
+use archive_format::Edition;
+
+fn low(x: usize) -> u8
+    ensures { λ r. ⌜ r ≡ x % 256 ⌝ }
+{
+    (x % 256) as u8
+}
+
+fn high(x: usize) -> u8
+    requires { ⌜ x < 65536 ⌝ }
+    ensures { λ r. ⌜ r ≡ x / 256 ⌝ }
+{
+    (x / 256) as u8
+}
+
+pub(crate) fn put(out: &mut [u8], at: usize, s: &[u8]) -> usize
+    requires { ⌜ at + length (now s) ≤ length (now out) ⌝ }
+    ensures { λ r. ⌜ Wrote (now (out .entry)) at (now (s .entry)) (now (out .exit)) r ⌝ }
+{
+    let mut i = 0;
+    while i < s.len() {
+        out[at + i] = s[i];
+        i += 1;
+    }
+    at + s.len()
+}
+
+// A record, its title's length and its title.
+pub(crate) fn put_record(out: &mut [u8], at: usize, segment: &[u8], title: &[u8]) -> usize
+    requires { ⌜ (length (now title) < 256) × (at + length (now segment) + 1 + length (now title) ≤ length (now out)) ⌝ }
+    ensures { λ r. ⌜ Wrote (now (out .entry)) at (recordBytes (now (segment .entry)) (now (title .entry))) (now (out .exit)) r ⌝ }
+{
+    let a = put(out, at, segment);
+    let n = [low(title.len())];
+    let b = put(out, a, &n);
+    put(out, b, title)
+}
+
+// A place, in two bytes.
+pub(crate) fn put_place(out: &mut [u8], at: usize, place: usize) -> usize
+    requires { ⌜ (place < 65536) × (at + 2 ≤ length (now out)) ⌝ }
+    ensures { λ r. ⌜ Wrote (now (out .entry)) at (bytes2 place) (now (out .exit)) r ⌝ }
+{
+    let lo = low(place);
+    let hi = high(place);
+    let two = [lo, hi];
+    put(out, at, &two)
+}
+
+// What ends a trailer after its places: the count, the trailer's own place, the mark.
+pub(crate) fn put_end(e: Edition, out: &mut [u8], at: usize, count: usize, trailer: usize) -> usize
+    requires { ⌜ (count < 65536) × (trailer < 65536) × (at + 6 ≤ length (now out)) ⌝ }
+    ensures { λ r. ⌜ Wrote (now (out .entry)) at (endBytes e count trailer) (now (out .exit)) r ⌝ }
+{
+    let count_lo = low(count);
+    let count_hi = high(count);
+    let lo = low(trailer);
+    let hi = high(trailer);
+    let six = [count_lo, count_hi, lo, hi, e.first, e.second];
+    put(out, at, &six)
+}

@@ -1,0 +1,166 @@
+-- Written reads back: where adding accepts, the new archive reads as the old records, in order, and the new one;
+-- finding and titles give back the new record, and every record found before at its place, with its bytes and title.
+use Prim.Native.Nat.{ℕ, _+_, _≤_, _<_}
+use native.Mathlib.Nat.{zero-add}
+use native.Mathlib.Omega.{arith}
+use mathlib.Core.Path.{_≡_, refl, sym, ap, _∙_}
+use mathlib.Core.Bool.{true, _&&_, and-assoc}
+use mathlib.Core.List.{List, [], _∷_, _++_}
+use lib.Dec.{leb, ltb}
+use lib.ListN.{length, take, drop, length-append}
+use borrow.Author.Tests.{leb-true, ltb-true, eqb-true, lt-ltb, eq-eqb, ne-eqb}
+use Rattle.refusal.specs.Refusal.{Or, refused, ok, andThen, need-passed, need-rest}
+use Rattle.octets.specs.Octets.{word4}
+use Rattle.archive_format.specs.declared.Edition.{Edition}
+use Rattle.archive_format.specs.Archive.{Filed, numberOf, body, encode, printables, titled, rising, lastNumber, filedAt, decode, countOf, placeOf, findIn, findOf, titleOf, single, addTo, addOf}
+use Rattle.archive_format.specs.Reading.{both}
+use Rattle.archive_format.specs.Decoded.{Shaped, Fit, decoded-is-fit}
+use Rattle.archive_format.specs.Encoded.{encoding-reads}
+use Rattle.archive_format.specs.Finding.{lookup, find-is, absent-is, title-is, lookup-more, lookup-after, find-more, find-after, find-above, place-more}
+
+-- ---- one record more
+
+titled-append : (fs gs : List Filed) → titled (fs ++ gs) ≡ (titled fs && titled gs)
+unfolding titled
+titled-append [] gs = refl
+titled-append (f ∷ fs) gs = rw (titled-append fs gs) (sym (and-assoc (printables (f .title)) (titled fs) (titled gs)))
+
+rising-append : (p : ℕ) (fs gs : List Filed) → rising p (fs ++ gs) ≡ (rising p fs && rising (lastNumber p fs) gs)
+unfolding rising lastNumber
+rising-append p [] gs = refl
+rising-append p (f ∷ fs) gs =
+    rw (rising-append (numberOf f) fs gs) (sym (and-assoc (ltb p (numberOf f)) (rising (numberOf f) fs) (rising (lastNumber (numberOf f) fs) gs)))
+
+shaped-append : (size : ℕ) (fs gs : List Filed) → Shaped size fs → Shaped size gs → Shaped size (fs ++ gs)
+shaped-append size [] gs h k = k
+shaped-append size (f ∷ fs) gs h k = (h .0, h .1, shaped-append size fs gs (h .2) k)
+
+-- what adding asks of a record and its title, after the records of an archive
+pub record Accepts (e : Edition) (fs : List Filed) (b t : List ℕ) : Type 0 where
+  pub sized : length b ≡ e .size
+  pub short : length t ≤ 40
+  pub clean : printables t ≡ true
+  pub above : lastNumber 0 fs < word4 b 0
+  pub free : length fs < 512
+
+pub fit-more : (e : Edition) (fs : List Filed) (b t : List ℕ) → Fit e fs → Accepts e fs b t → Fit e (fs ++ single b t)
+unfolding titled rising
+fit-more e fs b t f w =
+    record {
+      shaped = shaped-append (e .size) fs (single b t) (f .shaped) (w .sized, w .short, tt);
+      titles = titled-append fs (single b t) ∙ rw (f .titles, w .clean);
+      risen = rising-append 0 fs (single b t) ∙ rw (f .risen, lt-ltb _ _ (w .above));
+      many = simp length-append (omega (arith, w .free));
+    }
+
+-- what is answered was accepted, and is the encoding of the list with the record
+pub accepted : (e : Edition) (fs : List Filed) (b t : List ℕ) (room : ℕ) (new : List ℕ) → addTo e b t room fs ≡ ok new
+    → Accepts e fs b t × (new ≡ encode e (fs ++ single b t))
+unfolding addTo
+accepted e fs b t room new a6 =
+    let a4 : _ = need-rest _ _ _ _ a6 in
+    let a5 : _ = need-rest _ _ _ _ a4 in
+    let a17 : _ = need-rest _ _ _ _ a5 in
+    let a18 : _ = need-rest _ _ _ _ a17 in
+    let title : (leb (length t) 40 ≡ true) × (printables t ≡ true) = both _ _ (need-passed _ _ _ _ a4) in (
+      record { sized = eqb-true _ _ (need-passed _ _ _ _ a6); short = leb-true _ _ (title .0); clean = title .1; above = ltb-true _ _ (need-passed _ _ _ _ a5); free = ltb-true _ _ (need-passed _ _ _ _ a18) },
+      cc (need-rest _ _ _ _ a18),
+    )
+
+-- ---- written reads back
+
+-- a record found before, in the new archive
+pub record Kept (e : Edition) (l new : List ℕ) (n p : ℕ) : Type 0 where
+  pub found : findOf e new n ≡ ok p
+  pub bytes : take (e .size) (drop p new) ≡ take (e .size) (drop p l)
+  pub title : titleOf e new n ≡ titleOf e l n
+
+pub record Added (e : Edition) (l b t new : List ℕ) : Type 0 where
+  -- the old records, then the new one
+  pub fs : List Filed
+  pub old : decode e l ≡ ok fs
+  pub more : decode e new ≡ ok (fs ++ single b t)
+  pub count : countOf e new ≡ ok (length fs + 1)
+  -- the new record stands where the old trailer stood
+  pub found : findOf e new (word4 b 0) ≡ ok (length (body fs))
+  pub bytes : take (e .size) (drop (length (body fs)) new) ≡ b
+  pub title : titleOf e new (word4 b 0) ≡ t
+  -- what was found before is found, what was placed before is placed, and no other number appears
+  pub kept : (n p : ℕ) → findOf e l n ≡ ok p → Kept e l new n p
+  pub placed : (i p : ℕ) → placeOf e l i ≡ ok p → placeOf e new i ≡ ok p
+  pub absent : (n : ℕ) → (word4 b 0 ≡ n → ⊥) → findOf e l n ≡ refused 6 → findOf e new n ≡ refused 6
+
+module _ (e : Edition) (l b t new : List ℕ) (fs : List Filed) (old : decode e l ≡ ok fs) (more : decode e new ≡ ok (fs ++ single b t)) where
+  keep : (n p : ℕ) → findOf e l n ≡ ok p → Kept e l new n p
+  unfolding findOf
+  keep n p f =
+      let again : findOf e new n ≡ ok p = rw more (find-more (e .size) 0 fs (single b t) n p (rw old at f)) in
+      let here : lookup (fs ++ single b t) n ≡ ok (filedAt (e .size) l p) = lookup-more fs (single b t) n (filedAt (e .size) l p) (find-is e l fs n p old f) in
+      let there : lookup (fs ++ single b t) n ≡ ok (filedAt (e .size) new p) = find-is e new (fs ++ single b t) n p more again in
+      let same : filedAt (e .size) new p ≡ filedAt (e .size) l p = cc in
+      record {
+        found = again;
+        bytes = ap (λ (z : Filed). z .bytes) same;
+        title = title-is e new n p again ∙ ap (λ (z : Filed). z .title) same ∙ sym (title-is e l n p f);
+      }
+
+  -- a number that the old archive has not
+  module _ (n : ℕ) (gone : findOf e l n ≡ refused 6) where
+    find-last : Shaped (e .size) fs → findOf e new n ≡ findIn (e .size) (length (body fs)) (single b t) n
+    unfolding findOf
+    find-last shaped = rw more (find-after (e .size) 0 fs (single b t) n 6 shaped (rw old at gone) ∙ rw zero-add)
+
+    still-absent : Shaped (e .size) fs → (word4 b 0 ≡ n → ⊥) → findOf e new n ≡ refused 6
+    unfolding findIn
+    still-absent shaped other = find-last shaped ∙ rw (ne-eqb _ _ other)
+
+    lookup-last : word4 b 0 ≡ n → lookup (fs ++ single b t) n ≡ ok (record { bytes = b; title = t })
+    unfolding lookup
+    lookup-last same = lookup-after fs (single b t) n 6 (absent-is e l fs n 6 old gone) ∙ rw (eq-eqb _ _ same)
+
+    find-new : Shaped (e .size) fs → word4 b 0 ≡ n → findOf e new n ≡ ok (length (body fs))
+    unfolding findIn
+    find-new shaped same = find-last shaped ∙ rw (eq-eqb _ _ same)
+
+  -- the new number is above the others, so the old archive has it not
+  new-gone : rising 0 fs ≡ true → lastNumber 0 fs < word4 b 0 → findOf e l (word4 b 0) ≡ refused 6
+  unfolding findOf
+  new-gone risen above = rw old (find-above (e .size) 0 0 fs (word4 b 0) risen above)
+
+  place-kept : (i p : ℕ) → placeOf e l i ≡ ok p → placeOf e new i ≡ ok p
+  unfolding placeOf
+  place-kept i p h = rw more (place-more (e .size) 0 fs (single b t) i p (rw old at h))
+
+  counted : countOf e new ≡ ok (length fs + 1)
+  unfolding countOf
+  counted = rw (more, length-append fs (single b t))
+
+  read-back : Fit e fs → Accepts e fs b t → Added e l b t new
+  read-back f w =
+      let gone : findOf e l (word4 b 0) ≡ refused 6 = new-gone (f .risen) (w .above) in
+      let found : findOf e new (word4 b 0) ≡ ok (length (body fs)) = find-new (word4 b 0) gone (f .shaped) refl in
+      let same : filedAt (e .size) new (length (body fs)) ≡ record { bytes = b; title = t } =
+      cc (lookup-last (word4 b 0) gone refl, find-is e new (fs ++ single b t) (word4 b 0) (length (body fs)) more found) in
+      record {
+        fs = fs;
+        old = old;
+        more = more;
+        count = counted;
+        found = found;
+        bytes = ap (λ (z : Filed). z .bytes) same;
+        title = title-is e new (word4 b 0) (length (body fs)) found ∙ ap (λ (z : Filed). z .title) same;
+        kept = keep;
+        placed = place-kept;
+        absent = λ n other h. still-absent n h (f .shaped) other;
+      }
+
+pub added : (e : Edition) (l b t : List ℕ) (room : ℕ) (new : List ℕ) → addOf e l b t room ≡ ok new → Added e l b t new
+unfolding addOf
+added e l b t room new a = go (decode e l) refl a
+  where
+    go : (x : Or (List Filed)) → decode e l ≡ x → andThen x (λ fs. addTo e b t room fs) ≡ ok new → Added e l b t new
+    go (refused n) r a = absurd (let z : _≡_ {A = ℕ} 0 1 = cc in omega arith)
+    go (ok fs) r a =
+        let w : Accepts e fs b t × (new ≡ encode e (fs ++ single b t)) = accepted e fs b t room new a in
+        let f : Fit e fs = decoded-is-fit e l fs r in
+        read-back e l b t new fs r (rw (w .1) (encoding-reads e (fs ++ single b t) (fit-more e fs b t f (w .0)))) f (w .0)

@@ -1,0 +1,185 @@
+-- What finding means: the place found holds the record with the number, and its title is that record's.
+use Prim.Native.Nat.{ℕ, zero, suc, _+_, _*_, _≤_, _<_}
+use native.Mathlib.Omega.{arith}
+use mathlib.Core.Path.{_≡_, refl, ap, _∙_}
+use mathlib.Core.Bool.{Bool, true, false}
+use mathlib.Core.List.{List, [], _∷_, _++_}
+use lib.Dec.{eqb, ltb}
+use lib.ListN.{length, length-append}
+use borrow.Author.Tests.{eqb-true, ne-eqb, ltb-true}
+use Rattle.refusal.specs.Refusal.{Or, refused, ok, andThen, pick}
+use Rattle.octets.specs.Octets.{word2}
+use Rattle.archive_format.specs.declared.Edition.{Edition}
+use Rattle.archive_format.specs.Archive.{Filed, numberOf, body, rising, lastNumber, nextAt, filedAt, filedFrom, runs, countAt, trailerAt, decode, placeIn, findIn, findOf, titleOf}
+use Rattle.archive_format.specs.Reading.{both, title-length, Ran, ran, Reads, reads}
+use Rattle.archive_format.specs.Decoded.{Shaped}
+
+-- the record with a number, in a list
+unfoldable pub lookup : List Filed → ℕ → Or Filed
+lookup [] n = refused 6
+lookup (f ∷ fs) n = pick (eqb (numberOf f) n) (ok f) (lookup fs n)
+
+-- ---- a search in records that run: both absent, or the place holds the record
+
+pub data Search (size : ℕ) (l : List ℕ) (t : ℕ) (x : Or ℕ) (y : Or Filed) : Type 0 where
+  absent : x ≡ refused 6 → y ≡ refused 6 → Search size l t x y
+  present : (p : ℕ) → x ≡ ok p → y ≡ ok (filedAt size l p) → nextAt size l p ≤ t → Search size l t x y
+
+search-from : (size k : ℕ) (l : List ℕ) (t at q n : ℕ) → t ≤ length l → runs size k l t at q ≡ true
+    → Search size l t (findIn size at (filedFrom size k l at) n) (lookup (filedFrom size k l at) n)
+unfolding findIn filedFrom lookup
+search-from size zero l t at q n h r = absent refl refl
+search-from size (suc k) l t at q n h r =
+    let m : Ran size k l t at q = ran r in
+    let w : nextAt size l at ≤ length l = omega arith in
+    rw (title-length size l at w) (go (eqb (numberOf (filedAt size l at)) n) (m .within) (search-from size k l t (nextAt size l at) (q + 2) n h (m .on)))
+  where
+    go : (b : Bool) → nextAt size l at ≤ t → Search size l t (findIn size (nextAt size l at) (filedFrom size k l (nextAt size l at)) n) (lookup (filedFrom size k l (nextAt size l at)) n)
+        → Search size l t (pick b (ok at) (findIn size (nextAt size l at) (filedFrom size k l (nextAt size l at)) n)) (pick b (ok (filedAt size l at)) (lookup (filedFrom size k l (nextAt size l at)) n))
+    go true within ih = present at refl refl within
+    go false within ih = ih
+
+pub searched : (e : Edition) (l : List ℕ) (fs : List Filed) (n : ℕ) → decode e l ≡ ok fs → Search (e .size) l (trailerAt l) (findOf e l n) (lookup fs n)
+unfolding findOf
+searched e l fs n r =
+    let m : Reads e l fs = reads e l fs r in
+    let w : trailerAt l ≤ length l = omega (arith, m .sized) in
+    rw r (rw (m .held) at (search-from (e .size) (countAt l) l (trailerAt l) 0 (trailerAt l) n w (m .run)))
+
+-- the place found holds the record with the number
+pub find-is : (e : Edition) (l : List ℕ) (fs : List Filed) (n p : ℕ) → decode e l ≡ ok fs → findOf e l n ≡ ok p → lookup fs n ≡ ok (filedAt (e .size) l p)
+find-is e l fs n p r f = go (searched e l fs n r)
+  where
+    go : Search (e .size) l (trailerAt l) (findOf e l n) (lookup fs n) → lookup fs n ≡ ok (filedAt (e .size) l p)
+    go (absent x y) = absurd (let z : _≡_ {A = ℕ} 0 1 = cc in omega arith)
+    go (present o x y w) = let z : o ≡ p = cc in rw z at y
+
+pub absent-is : (e : Edition) (l : List ℕ) (fs : List Filed) (n m : ℕ) → decode e l ≡ ok fs → findOf e l n ≡ refused m → lookup fs n ≡ refused 6
+absent-is e l fs n m r f = go (searched e l fs n r)
+  where
+    go : Search (e .size) l (trailerAt l) (findOf e l n) (lookup fs n) → lookup fs n ≡ refused 6
+    go (absent x y) = y
+    go (present o x y w) = absurd (let z : _≡_ {A = ℕ} 0 1 = cc in omega arith)
+
+-- whole, with its title, before the archive ends
+pub find-within : (e : Edition) (l : List ℕ) (n p : ℕ) → findOf e l n ≡ ok p → nextAt (e .size) l p ≤ length l
+unfolding findOf
+find-within e l n p found = go (decode e l) refl found
+  where
+    inside : (fs : List Filed) → Reads e l fs → Search (e .size) l (trailerAt l) (findOf e l n) (lookup fs n) → nextAt (e .size) l p ≤ length l
+    inside fs m (absent x y) = absurd (let z : _≡_ {A = ℕ} 0 1 = cc found in omega arith)
+    inside fs m (present o x y w) = let z : o ≡ p = cc found in rw (← z) (omega (arith, m .sized))
+
+    go : (x : Or (List Filed)) → decode e l ≡ x → andThen x (λ fs. findIn (e .size) 0 fs n) ≡ ok p → nextAt (e .size) l p ≤ length l
+    go (refused m) r f = absurd (let z : _≡_ {A = ℕ} 0 1 = cc in omega arith)
+    go (ok fs) r f = inside fs (reads e l fs r) (searched e l fs n r)
+
+-- the title handed back is that record's
+pub title-is : (e : Edition) (l : List ℕ) (n p : ℕ) → findOf e l n ≡ ok p → titleOf e l n ≡ filedAt (e .size) l p .title
+unfolding titleOf
+title-is e l n p f = rw f
+
+-- a record found has the number looked for
+pub lookup-number : (fs : List Filed) (n : ℕ) (g : Filed) → lookup fs n ≡ ok g → numberOf g ≡ n
+unfolding lookup
+lookup-number [] n g h = absurd (let z : _≡_ {A = ℕ} 0 1 = cc in omega arith)
+lookup-number (f ∷ fs) n g h = go (eqb (numberOf f) n) refl h (lookup-number fs n g)
+  where
+    go : (b : Bool) → eqb (numberOf f) n ≡ b → pick b (ok f) (lookup fs n) ≡ ok g → (lookup fs n ≡ ok g → numberOf g ≡ n) → numberOf g ≡ n
+    go true e h ih = let z : f ≡ g = cc in rw (← z) (eqb-true _ _ e)
+    go false e h ih = ih h
+
+-- ---- a list with more records after it
+
+pub lookup-more : (fs gs : List Filed) (n : ℕ) (g : Filed) → lookup fs n ≡ ok g → lookup (fs ++ gs) n ≡ ok g
+unfolding lookup
+lookup-more [] gs n g h = absurd (let z : _≡_ {A = ℕ} 0 1 = cc in omega arith)
+lookup-more (f ∷ fs) gs n g h = go (eqb (numberOf f) n) h (lookup-more fs gs n g)
+  where
+    go : (b : Bool) → pick b (ok f) (lookup fs n) ≡ ok g → (lookup fs n ≡ ok g → lookup (fs ++ gs) n ≡ ok g) → pick b (ok f) (lookup (fs ++ gs) n) ≡ ok g
+    go true h ih = h
+    go false h ih = ih h
+
+pub lookup-after : (fs gs : List Filed) (n m : ℕ) → lookup fs n ≡ refused m → lookup (fs ++ gs) n ≡ lookup gs n
+unfolding lookup
+lookup-after [] gs n m h = refl
+lookup-after (f ∷ fs) gs n m h = go (eqb (numberOf f) n) h (lookup-after fs gs n m)
+  where
+    go : (b : Bool) → pick b (ok f) (lookup fs n) ≡ refused m → (lookup fs n ≡ refused m → lookup (fs ++ gs) n ≡ lookup gs n) → pick b (ok f) (lookup (fs ++ gs) n) ≡ lookup gs n
+    go true h ih = absurd (let z : _≡_ {A = ℕ} 0 1 = cc in omega arith)
+    go false h ih = ih h
+
+pub find-more : (size at : ℕ) (fs gs : List Filed) (n p : ℕ) → findIn size at fs n ≡ ok p → findIn size at (fs ++ gs) n ≡ ok p
+unfolding findIn
+find-more size at [] gs n p h = absurd (let z : _≡_ {A = ℕ} 0 1 = cc in omega arith)
+find-more size at (f ∷ fs) gs n p h = go (eqb (numberOf f) n) h (find-more size (at + size + 1 + length (f .title)) fs gs n p)
+  where
+    go : (b : Bool) → pick b (ok at) (findIn size (at + size + 1 + length (f .title)) fs n) ≡ ok p
+        → (findIn size (at + size + 1 + length (f .title)) fs n ≡ ok p → findIn size (at + size + 1 + length (f .title)) (fs ++ gs) n ≡ ok p)
+        → pick b (ok at) (findIn size (at + size + 1 + length (f .title)) (fs ++ gs) n) ≡ ok p
+    go true h ih = h
+    go false h ih = ih h
+
+-- a number that the list has not is looked for in what follows
+pub find-after : (size at : ℕ) (fs gs : List Filed) (n m : ℕ) → Shaped size fs → findIn size at fs n ≡ refused m → findIn size at (fs ++ gs) n ≡ findIn size (at + length (body fs)) gs n
+unfolding findIn body
+find-after size at [] gs n m s h = let z : at ≡ at + 0 = omega arith in ap (λ (y : ℕ). findIn size y gs n) z
+find-after size at (f ∷ fs) gs n m s h = go (eqb (numberOf f) n) h (find-after size (at + size + 1 + length (f .title)) fs gs n m (s .2)) next
+  where
+    next : at + size + 1 + length (f .title) + length (body fs) ≡ at + length (f .bytes ++ (length (f .title) ∷ (f .title ++ body fs)))
+    next = simp length-append (omega (arith, s .0))
+
+    go : (b : Bool) → pick b (ok at) (findIn size (at + size + 1 + length (f .title)) fs n) ≡ refused m
+        → (findIn size (at + size + 1 + length (f .title)) fs n ≡ refused m → findIn size (at + size + 1 + length (f .title)) (fs ++ gs) n ≡ findIn size (at + size + 1 + length (f .title) + length (body fs)) gs n)
+        → at + size + 1 + length (f .title) + length (body fs) ≡ at + length (f .bytes ++ (length (f .title) ∷ (f .title ++ body fs)))
+        → pick b (ok at) (findIn size (at + size + 1 + length (f .title)) (fs ++ gs) n) ≡ findIn size (at + length (f .bytes ++ (length (f .title) ∷ (f .title ++ body fs)))) gs n
+    go true h ih z = absurd (let y : _≡_ {A = ℕ} 0 1 = cc in omega arith)
+    go false h ih z = ih h ∙ ap (λ (y : ℕ). findIn size y gs n) z
+
+pub place-more : (size at : ℕ) (fs gs : List Filed) (i p : ℕ) → placeIn size at fs i ≡ ok p → placeIn size at (fs ++ gs) i ≡ ok p
+unfolding placeIn
+place-more size at [] gs i p h = absurd (let z : _≡_ {A = ℕ} 0 1 = cc in omega arith)
+place-more size at (f ∷ fs) gs zero p h = h
+place-more size at (f ∷ fs) gs (suc i) p h = place-more size (at + size + 1 + length (f .title)) fs gs i p h
+
+-- ---- numbers that rise
+
+pub last-above : (p : ℕ) (fs : List Filed) → rising p fs ≡ true → p ≤ lastNumber p fs
+unfolding rising lastNumber
+last-above p [] r = omega arith
+last-above p (f ∷ fs) r =
+    let b : (ltb p (numberOf f) ≡ true) × (rising (numberOf f) fs ≡ true) = both _ _ r in
+    omega (arith, ltb-true p (numberOf f) (b .0), last-above (numberOf f) fs (b .1))
+
+-- a number above the last is not in the list
+pub find-above : (size at p : ℕ) (fs : List Filed) (n : ℕ) → rising p fs ≡ true → lastNumber p fs < n → findIn size at fs n ≡ refused 6
+unfolding rising lastNumber findIn
+find-above size at p [] n r h = refl
+find-above size at p (f ∷ fs) n r h =
+    let b : (ltb p (numberOf f) ≡ true) × (rising (numberOf f) fs ≡ true) = both _ _ r in
+    let other : numberOf f ≡ n → ⊥ = λ same. omega (arith, same, last-above (numberOf f) fs (b .1)) in
+    rw (ne-eqb _ _ other) (find-above size (at + size + 1 + length (f .title)) (numberOf f) fs n (b .1) h)
+
+-- ---- places
+
+-- the places of the trailer are the records'
+pub place-at : (size k : ℕ) (l : List ℕ) (t at q i : ℕ) → t ≤ length l → runs size k l t at q ≡ true → i < k → placeIn size at (filedFrom size k l at) i ≡ ok (word2 l (q + 2 * i))
+unfolding placeIn filedFrom
+place-at size zero l t at q i h r s = absurd (omega arith)
+place-at size (suc k) l t at q zero h r s =
+    let m : Ran size k l t at q = ran r in
+    let z : q + 2 * zero ≡ q = omega arith in
+    rw (z, m .placed)
+place-at size (suc k) l t at q (suc i) h r s =
+    let m : Ran size k l t at q = ran r in
+    let n : nextAt size l at ≤ length l = omega arith in
+    let z : q + 2 + 2 * i ≡ q + 2 * suc i = omega arith in
+    ap (λ (y : ℕ). placeIn size (at + size + 1 + y) (filedFrom size k l (nextAt size l at)) i) (title-length size l at n)
+    ∙ place-at size k l t (nextAt size l at) (q + 2) i h (m .on) (omega arith)
+    ∙ ap (λ (y : ℕ). ok (word2 l y)) z
+
+pub place-beyond : (size p : ℕ) (fs : List Filed) (i : ℕ) → length fs ≤ i → placeIn size p fs i ≡ refused 6
+unfolding placeIn
+place-beyond size p [] i h = refl
+place-beyond size p (f ∷ fs) zero h = absurd (omega arith)
+place-beyond size p (f ∷ fs) (suc i) h = place-beyond size (p + size + 1 + length (f .title)) fs i (omega arith)

@@ -1,0 +1,33 @@
+// Archives of segment records (paper 01: drawers of cards). What they mean is in specs/.
+ghost use mathlib.Core.Path.{_≡_};
+ghost use mathlib.Core.List.{[]};
+ghost use Rattle.archive_format.specs.Archive.{encode, segments};
+
+// The size of a record and the two bytes that mark an archive of them.
+pub struct Edition {
+    pub size: usize,
+    pub first: u8,
+    pub second: u8,
+}
+
+// The first edition: records of 68 bytes, mark "DR".
+pub const SEGMENTS: Edition = Edition {
+    size: 68,
+    first: 68,
+    second: 82,
+};
+
+// A place, a count or a length; or the paper's number of a refusal.
+pub enum Answer {
+    Refused(u32),
+    Is(usize),
+}
+
+// The archive with no records.
+pub const EMPTY: [u8; 6] = [0, 0, 0, 0, 68, 82];
+
+pub fn empty() -> [u8; 6]
+    ensures { λ r. ⌜ r ≡ encode segments [] ⌝ }
+{
+    EMPTY
+}

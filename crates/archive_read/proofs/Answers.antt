@@ -1,0 +1,70 @@
+-- The calls' answers, by what opening answered.
+use Prim.Native.Nat.{ℕ, _+_, _*_, _-_, _≤_, _<_}
+use native.Mathlib.Omega.{arith}
+use mathlib.Core.Path.{_≡_, sym, _∙_}
+use mathlib.Core.List.{List, []}
+use lib.ListN.{length, take, drop, getD}
+use Rattle.refusal.specs.Refusal.{Or, refused, ok}
+use Rattle.octets.specs.Octets.{word2}
+use Rattle.archive_format.specs.declared.Edition.{Edition}
+use Rattle.archive_format.specs.declared.Answer.{Answer}
+use Rattle.archive_format.specs.declared.Answer.the-variants.{Is, Refused}
+use Rattle.archive_format.specs.Archive.{filedFrom, nextAt, decode, answerOf, countOf, placeOf, findIn, findOf, titleOf}
+use Rattle.archive_format.specs.Reading.{filed-length}
+use Rattle.archive_format.specs.Finding.{find-within, place-at, place-beyond}
+use Rattle.archive_read.specs.declared.opening.Opened.the-variants.{Invalid}
+use Rattle.archive_read.specs.Opening.{openedOf, invalid, Held, held-run, held-fits, held-filed}
+
+module _ (e : Edition) (l : List ℕ) where
+  pub count-invalid : (n : ℕ) → openedOf (decode e l) ≡ Invalid n → Refused n ≡ answerOf (countOf e l)
+  unfolding countOf
+  count-invalid n o = sym (rw (invalid e l n o))
+
+  pub place-invalid : (n i : ℕ) → openedOf (decode e l) ≡ Invalid n → Refused n ≡ answerOf (placeOf e l i)
+  unfolding placeOf
+  place-invalid n i o = sym (rw (invalid e l n o))
+
+  pub find-invalid : (n i : ℕ) → openedOf (decode e l) ≡ Invalid n → Refused n ≡ answerOf (findOf e l i)
+  unfolding findOf
+  find-invalid n i o = sym (rw (invalid e l n o))
+
+  module _ {count t last : ℕ} (h : Held e l count t last) where
+    pub count-valid : Is count ≡ answerOf (countOf e l)
+    unfolding countOf
+    count-valid = sym (rw (held-filed e l h, filed-length (e .size) count l 0))
+
+    pub place-valid : {i p : ℕ} → i < count → p ≡ word2 l (t + 2 * i) → Is p ≡ answerOf (placeOf e l i)
+    unfolding placeOf
+    place-valid {i} {p} s w = sym (rw (held-filed e l h, place-at (e .size) count l t 0 t i (omega (arith, held-fits e l h)) (held-run e l h) s, w))
+
+    pub place-none : {i : ℕ} → count ≤ i → Refused 6 ≡ answerOf (placeOf e l i)
+    unfolding placeOf
+    place-none {i} s = sym (rw (held-filed e l h, place-beyond (e .size) 0 (filedFrom (e .size) count l 0) i (rw (filed-length (e .size) count l 0) s)))
+
+    pub find-valid : (n : ℕ) {r : Answer} → r ≡ answerOf (findIn (e .size) 0 (filedFrom (e .size) count l 0) n) → r ≡ answerOf (findOf e l n)
+    unfolding findOf
+    find-valid n w = w ∙ sym (rw (held-filed e l h))
+
+-- ---- a title, by what finding answered
+
+answer-ok : (x : Or ℕ) (p : ℕ) → answerOf x ≡ Is p → x ≡ ok p
+answer-ok (refused n) p a = absurd (let z : _≡_ {A = ℕ} 0 1 = cc in omega arith)
+answer-ok (ok m) p a = let z : m ≡ p = cc in rw z
+
+answer-refused : (x : Or ℕ) (p : ℕ) → answerOf x ≡ Refused p → x ≡ refused p
+answer-refused (refused n) p a = let z : n ≡ p = cc in rw z
+answer-refused (ok m) p a = absurd (let z : _≡_ {A = ℕ} 0 1 = cc in omega arith)
+
+module _ (e : Edition) (l : List ℕ) (n p : ℕ) where
+  pub title-within : answerOf (findOf e l n) ≡ Is p → nextAt (e .size) l p ≤ length l
+  title-within a = find-within e l n p (answer-ok (findOf e l n) p a)
+
+  pub title-found : (m : ℕ) → answerOf (findOf e l n) ≡ Is p → m ≡ getD l (p + e .size) 0 → take (p + e .size + 1 + m - (p + e .size + 1)) (drop (p + e .size + 1) l) ≡ titleOf e l n
+  unfolding titleOf
+  title-found m a em =
+      let c : p + e .size + 1 + m - (p + e .size + 1) ≡ m = omega arith in
+      rw (c, em, answer-ok (findOf e l n) p a)
+
+  pub title-none : answerOf (findOf e l n) ≡ Refused p → [] ≡ titleOf e l n
+  unfolding titleOf
+  title-none a = sym (rw (answer-refused (findOf e l n) p a))

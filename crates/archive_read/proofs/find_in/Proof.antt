@@ -1,0 +1,33 @@
+use native.Mathlib.Omega.{arith}
+use mathlib.Core.Path.{sym, _∙_}
+use borrow.Author.Needs.{needs}
+use Rattle.archive_read.specs.Opening.{Held, held, held-fits, held-run}
+use Rattle.archive_read.proofs.Answers.{find-invalid, find-valid}
+use Rattle.archive_read.proofs.find_in.Statement.{statement}
+use Rattle.archive_read.proofs.find_in.Tie as tie
+
+here : (c : tie.After-o2) → Held (c .before .before .before .before .args .e) (c .before .before .before .before .args .s .now) (c .o2 .given .0 .0) (c .o2 .given .0 .1 .0) (c .o2 .given .0 .1 .1 .0)
+here c = held (sym (c .before .before .open .ensures) ∙ c .o2 .given .1)
+
+open-requires : tie.Need-open-requires
+open-requires c κs = search needs
+
+enum-known-o : tie.Need-enum-known-o
+enum-known-o c = search needs
+
+enum-known-o-2 : tie.Need-enum-known-o-2
+enum-known-o-2 c = search needs
+
+seek-requires : tie.Need-seek-requires
+seek-requires c κs = (search needs, omega (arith, held-fits _ _ (here (c .before))), held-run _ _ (here (c .before)))
+
+returns : tie.Need-returns
+returns c = find-invalid _ _ _ _ (sym (c .before .before .before .open .ensures) ∙ c .before .o .given .1)
+
+returns-2 : tie.Need-returns-2
+returns-2 c = find-valid _ _ (here (c .before .before)) _ (c .seek .ensures)
+
+pub find-in-spec : {M : Type 1} → statement M
+find-in-spec =
+    tie.close
+    (tie.spec open-requires enum-known-o enum-known-o-2 seek-requires returns returns-2)

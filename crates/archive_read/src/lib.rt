@@ -1,0 +1,124 @@
+// Reading archives of segment records: how many, the place of each, finding by number, titles.
+// Each call says the paper's number of a refusal; none asks anything of its caller.
+pub mod opening;
+
+ghost use mathlib.Core.Path.{_≡_};
+ghost use mathlib.Core.Bool.{true};
+ghost use Prim.Native.Nat.{_≤_};
+ghost use lib.ListN.{length};
+ghost use Rattle.archive_format.specs.Archive.{Sized, filedFrom, runs, findIn, answerOf, countOf, placeOf, findOf, titleOf, segments};
+use archive_format::Answer;
+use archive_format::Edition;
+use archive_format::SEGMENTS;
+use opening::Opened;
+
+// The place of the record with a number, in an archive that was read.
+fn seek(size: usize, s: &[u8], count: usize, t: usize, number: u32) -> Answer
+    requires { ⌜ Sized size × (t ≤ length (now s)) × (runs size count (now s) t 0 t ≡ true) ⌝ }
+    ensures { λ r. ⌜ r ≡ answerOf (findIn size 0 (filedFrom size count (now (s .entry)) 0) number) ⌝ }
+{
+    let mut i = 0;
+    let mut at = 0;
+    while i < count {
+        if octets::word4_at(s, at) == number {
+            return Answer::Is(at);
+        }
+        at = at + size + 1 + opening::long(s[at + size]);
+        i += 1;
+    }
+    Answer::Refused(6)
+}
+
+fn count_in(e: Edition, s: &[u8]) -> Answer
+    requires { ⌜ Sized (e .size) ⌝ }
+    ensures { λ r. ⌜ r ≡ answerOf (countOf e (now (s .entry))) ⌝ }
+{
+    let o = opening::open(e, s);
+    match o {
+        Opened::Invalid(n) => Answer::Refused(n),
+        Opened::Valid {
+            count,
+            trailer: _,
+            last: _,
+        } => Answer::Is(count),
+    }
+}
+
+fn place_in(e: Edition, s: &[u8], i: usize) -> Answer
+    requires { ⌜ Sized (e .size) ⌝ }
+    ensures { λ r. ⌜ r ≡ answerOf (placeOf e (now (s .entry)) i) ⌝ }
+{
+    let o = opening::open(e, s);
+    match o {
+        Opened::Invalid(n) => Answer::Refused(n),
+        Opened::Valid {
+            count,
+            trailer,
+            last: _,
+        } => {
+            if i < count {
+                Answer::Is(opening::place_at(s, trailer + 2 * i))
+            } else {
+                Answer::Refused(6)
+            }
+        }
+    }
+}
+
+fn find_in(e: Edition, s: &[u8], number: u32) -> Answer
+    requires { ⌜ Sized (e .size) ⌝ }
+    ensures { λ r. ⌜ r ≡ answerOf (findOf e (now (s .entry)) number) ⌝ }
+{
+    let o = opening::open(e, s);
+    match o {
+        Opened::Invalid(n) => Answer::Refused(n),
+        Opened::Valid {
+            count,
+            trailer,
+            last: _,
+        } => seek(e.size, s, count, trailer, number),
+    }
+}
+
+fn title_in<'a>(e: Edition, s: &'a [u8], number: u32) -> &'a [u8]
+    requires { ⌜ Sized (e .size) ⌝ }
+    ensures { λ r. ⌜ now r ≡ titleOf e (now (s .entry)) number ⌝ }
+{
+    let size = e.size;
+    let f = find_in(e, s, number);
+    match f {
+        Answer::Is(at) => {
+            let n = opening::long(s[at + size]);
+            &s[at + size + 1..at + size + 1 + n]
+        }
+        Answer::Refused(_) => &s[0..0],
+    }
+}
+
+// How many records an archive holds.
+pub fn count(archive: &[u8]) -> Answer
+    ensures { λ r. ⌜ r ≡ answerOf (countOf segments (now (archive .entry))) ⌝ }
+{
+    count_in(SEGMENTS, archive)
+}
+
+// The place of the record with an index from 0; 6 where there is none.
+pub fn place(archive: &[u8], i: usize) -> Answer
+    ensures { λ r. ⌜ r ≡ answerOf (placeOf segments (now (archive .entry)) i) ⌝ }
+{
+    place_in(SEGMENTS, archive, i)
+}
+
+// The place of the record with a number; 6 where there is none.
+pub fn find(archive: &[u8], number: u32) -> Answer
+    ensures { λ r. ⌜ r ≡ answerOf (findOf segments (now (archive .entry)) number) ⌝ }
+{
+    find_in(SEGMENTS, archive, number)
+}
+
+// The title of the record with a number, as part of the archive; empty where finding refuses.
+pub fn title<'a>(archive: &'a [u8], number: u32) -> &'a [u8]
+    ensures { λ r. ⌜ now r ≡ titleOf segments (now (archive .entry)) number ⌝ }
+{
+    title_in(SEGMENTS, archive, number)
+}

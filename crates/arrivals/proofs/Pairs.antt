@@ -1,0 +1,73 @@
+-- The loop that adds a pair's arrivals to a run.
+use Prim.Native.Nat.{ℕ, zero, suc, _+_, _-_, _*_, _^_, _≤_, _<_}
+use native.Mathlib.Omega.{arith}
+use native.Mathlib.Numerals.{add-one}
+use native.Mathlib.Nat.{mul-le-mul-left, le-pred-of-lt, le-refl}
+use mathlib.Core.Path.{_≡_, refl, ap, sym, _∙_}
+use mathlib.Core.List.{List}
+use lib.ListN.{length, drop, set, getD, replicate, length-set, drop-of-length-le}
+use lib.Seq.{drop-cons, set-getD}
+use borrow.Author.Tests.{eq-eqb}
+use Rattle.signal.specs.Turn.{turn, turn-pos, turn-le}
+use Rattle.signal.specs.Landing.{added, Untouched, untouched-on}
+use Rattle.pair_parts.specs.PairParts.{partOf, restOf, parts, pairArrivals}
+use Rattle.pair_parts.specs.Laws.{part-le, rest-lt, pair-parts}
+use Rattle.arrivals.specs.declared.Part.{Part}
+use Rattle.arrivals.specs.Arrivals.{PairRanges}
+
+pub product-fits : (arrival v carry : ℕ) → arrival < 2 ^ 32 → v < 2 ^ 32 → carry < 2 ^ 32 → arrival * v + carry < 2 ^ 64
+product-fits arrival v carry ha hv hc = omega (arith, mul-le-mul-left arrival (le-pred-of-lt hv))
+
+-- i arrivals added, the rest to come
+pub record Adding (arrived : List ℕ) (v w t : ℕ) (run₀ run : List ℕ) (carry i : ℕ) : Type 0 where
+  pub within : i ≤ length arrived
+  pub carried : carry < w
+  pub long : length run ≡ length run₀
+  pub clear : Untouched (length run₀) t (i + 1) run₀ run
+  pub same : added (length run₀) t 1 (parts v w 0 arrived) run₀ ≡ added (length run₀) t (i + 1) (parts v w carry (drop i arrived)) run
+
+pub adding-start : (arrived : List ℕ) (v w t : ℕ) (run : List ℕ) → (w ≡ 0 → ⊥) → Adding arrived v w t run run 0 0
+adding-start arrived v w t run h =
+    record { within = omega arith; carried = omega arith; long = refl; clear = record { same = λ m _ _. refl }; same = refl }
+
+module _ {arrived : List ℕ} {v w t : ℕ} {run₀ run : List ℕ} {carry i : ℕ} (r : Adding arrived v w t run₀ run carry i) (a : PairRanges v w t arrived run₀)
+    (more : i < length arrived) (at : ℕ) (e : at ≡ turn (length run₀) (i + 1 + t) - 1) where
+  pub place-lt : at < length run
+  place-lt = omega (arith, e, r .long, a .long, turn-le (length run₀) (i + 1 + t) (omega (arith, a .long)), turn-pos (length run₀) (i + 1 + t))
+
+  module _ (p : Part) (is : (p .flow ≡ partOf v w carry (getD arrived i 0)) × (p .carry ≡ restOf v w carry (getD arrived i 0))) where
+    pub sum-fits : getD run at 0 + p .flow < 2 ^ 32
+    sum-fits =
+        rw (e, is .0, r .clear .same (i + 1) (le-refl (i + 1)) (omega (arith, a .long)))
+        (omega (arith, part-le v w carry (getD arrived i 0) (a .share) (r .carried), a .arrivals i, a .small (turn (length run₀) (i + 1 + t) - 1)))
+
+    pub adding-turn : Adding arrived v w t run₀ (set run at (getD run at 0 + p .flow)) (p .carry) (i + 1)
+    unfolding added parts
+    adding-turn =
+        rw (e, is .0, is .1)
+        (record {
+          within = omega arith;
+          carried = rest-lt v w carry (getD arrived i 0) (omega (arith, r .carried));
+          long = simp length-set (r .long);
+          clear = untouched-on (length run₀) t (i + 1) _ run₀ run (omega arith) (omega (arith, a .long)) (r .clear);
+          same = r .same ∙ rw (drop-cons arrived i 0, add-one i, add-one (suc i));
+        })
+
+pub adding-done : {arrived : List ℕ} {v w t : ℕ} {run₀ run : List ℕ} {carry i : ℕ} → Adding arrived v w t run₀ run carry i → length arrived ≤ i →
+    run ≡ added (length run₀) t 1 (pairArrivals v w arrived) run₀
+unfolding added parts
+adding-done {arrived} {v} {w} r h = sym (rw (pair-parts v w arrived (omega (arith, r .carried))) (r .same ∙ rw (drop-of-length-le arrived h)))
+
+-- zeros add nothing
+adding-zeros : (c t i n : ℕ) (run : List ℕ) → run ≡ added c t i (replicate n 0) run
+unfolding added
+adding-zeros c t i zero run = refl
+adding-zeros c t i (suc n) run =
+    let at = turn c (i + t) - 1 in
+    let z : getD run at 0 + 0 ≡ getD run at 0 = omega arith in
+    let e : set run at (getD run at 0 + 0) ≡ run = ap (set run at) z ∙ set-getD run at 0 in
+    adding-zeros c t (suc i) n run ∙ ap (added c t (suc i) (replicate n 0)) (sym e)
+
+pub adding-none : (arrived : List ℕ) (v w t : ℕ) (run : List ℕ) → w ≡ 0 → run ≡ added (length run) t 1 (pairArrivals v w arrived) run
+unfolding pairArrivals
+adding-none arrived v w t run e = rw (eq-eqb w 0 e) (adding-zeros (length run) t 1 (length arrived) run)

@@ -1,0 +1,38 @@
+-- Arrivals at the exits: the output holds a run of c numbers for each exit, exits in order; what lies beyond stays.
+use Prim.Native.Nat.{ℕ, _*_, _≤_, _<_}
+use mathlib.Core.Path.{_≡_}
+use mathlib.Core.List.{List, [], _∷_, _++_}
+use lib.ListN.{length, take, drop, getD, replicate}
+use Rattle.signal.specs.Landing.{added}
+use Rattle.pair_parts.specs.PairParts.{pairArrivals}
+
+-- the runs in front of an output, each worked with a number of its own
+unfoldable pub perRun : (ℕ → List ℕ → List ℕ) → ℕ → List ℕ → List ℕ → List ℕ
+perRun g c [] out = out
+perRun g c (v ∷ row) out = g v (take c out) ++ perRun g c row (drop c out)
+
+-- access adds its v in every step: each run begins with it, whatever stood there
+unfoldable pub begun : ℕ → List ℕ → List ℕ → List ℕ
+begun c row out = perRun (λ v run. replicate c v) c row out
+
+-- an entry's arrivals, t steps later (t the platoon arrival time, t'): to each run those of its pair are added where they land
+unfoldable pub entryAdded : ℕ → ℕ → ℕ → List ℕ → List ℕ → List ℕ → List ℕ
+entryAdded c t w arrived row out = perRun (λ v run. added c t 1 (pairArrivals v w arrived) run) c row out
+
+-- ranges in which the sums of one run fit
+pub record PairRanges (v w t : ℕ) (arrived run : List ℕ) : Type 0 where
+  pub long : length arrived ≡ length run
+  pub cycle : length run ≤ 240
+  pub share : v ≤ w
+  pub time : t < 1000
+  pub arrivals : (i : ℕ) → getD arrived i 0 ≤ 12000000
+  pub small : (k : ℕ) → getD run k 0 ≤ 4000000000
+
+-- and of the four
+pub record EntryRanges (w t : ℕ) (row arrived out : List ℕ) : Type 0 where
+  pub cycle : length arrived ≤ 240
+  pub room : 4 * length arrived ≤ length out
+  pub shares : (j : ℕ) → getD row j 0 ≤ w
+  pub time : t < 1000
+  pub arrivals : (i : ℕ) → getD arrived i 0 ≤ 12000000
+  pub small : (k : ℕ) → k < 4 * length arrived → getD out k 0 ≤ 4000000000

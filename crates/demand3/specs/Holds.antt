@@ -1,0 +1,89 @@
+-- Demand 3 holds of every filling: its parts are the laws of exact and pair_parts, at the definitions of the working.
+use Prim.Native.Nat.{ℕ, suc, _+_, _-_, _*_, _≤_, _<_}
+use native.Mathlib.Omega.{arith}
+use mathlib.Core.Path.{_≡_, refl, ap, sym, _∙_}
+use mathlib.Core.List.{List}
+use lib.ListN.{length, drop, getD}
+use Rattle.movements.specs.Movements.{flowUnits}
+use Rattle.signal.specs.Turn.{earlier, earlier-pos, earlier-le}
+use Rattle.signal.specs.Landing.{landing-is}
+use Rattle.segment.specs.declared.Entry.{Entry}
+use Rattle.segment.specs.declared.Segment.{Segment}
+use Rattle.metering.specs.Metering.{discharged}
+use Rattle.entries.specs.Entries.{entryProfile}
+use Rattle.entries.specs.Laws.{entry-length}
+use Rattle.dispersion.specs.Dispersion.{arrivalTimeOf, reported}
+use Rattle.dispersion.specs.Cycles.{reported-length}
+use Rattle.pair_parts.specs.Laws.{pair-length, pair-shared}
+use Rattle.exact.specs.Fraction.{Within}
+use Rattle.exact.specs.Exit.{pair-within, exit-within}
+use Rattle.exact_dispersion.specs.ExactDispersion.{exactReported}
+use Rattle.exact_dispersion.specs.Laws.{reported-within, entry-balanced}
+use Rattle.arrivals.specs.Laws.{number-of}
+use Rattle.propagation.specs.Propagation.{Profiles, cycles, pairFlow, entryArrivals, pairOf, landsIn, flowAt, filledOf}
+use Rattle.propagation.specs.Steps.{RowsFit}
+use Rattle.demand3.specs.Demand3.{exactOf, exactAt, EntryHolds, Demand3}
+
+module _ (s : Segment) (e : Entry) where
+  arrivals-length : length (entryArrivals s e) ≡ s .cycle
+  unfolding entryArrivals
+  arrivals-length = reported-length (s .running) (entryProfile (s .cycle) e) 1 ∙ entry-length (s .cycle) e
+
+  -- an arrival is within one of the exact flow
+  arrival-within : (before i : ℕ) → suc before ≡ i → before < length (entryProfile (s .cycle) e) →
+      Within 1 (getD (entryArrivals s e) before 0) (exactReported (s .running) (entryProfile (s .cycle) e) cycles i)
+  unfolding entryArrivals
+  arrival-within before i n h = rw n at (reported-within (s .running) (entryProfile (s .cycle) e) 1 before h)
+
+  -- what lands in a step is within two of its exact share
+  lands-within : (v step : ℕ) → v ≤ flowUnits (discharged (s .cycle) e) → 0 < step → step ≤ s .cycle →
+      Within 2 (landsIn s e v step) (exactOf s e v (earlier (s .cycle) (arrivalTimeOf (s .running)) step))
+  unfolding landsIn pairOf exactOf
+  lands-within v step h pos fits =
+      let c = s .cycle in
+      let t = arrivalTimeOf (s .running) in
+      let w = flowUnits (discharged c e) in
+      let i = earlier c t step in
+      let before = i - 1 in
+      let first = earlier-pos c t step in
+      let last = earlier-le c t step (omega arith) in
+      let n : suc before ≡ i = omega arith in
+      let l = arrivals-length in
+      let inside : before < length (entryProfile c e) = omega (arith, entry-length c e) in
+      rw (landing-is c t step (pairOf s e v) pos fits (omega (arith, pair-length v w (entryArrivals s e))))
+      (pair-within v w (entryArrivals s e) before h (omega arith) (arrival-within before i n inside))
+
+  entry-holds : (v : ℕ → ℕ) → EntryHolds s e v
+  unfolding pairOf
+  entry-holds v =
+      record {
+        balanced = entry-balanced (s .running) (entryProfile (s .cycle) e) 1;
+        shared = λ pos exit h. pair-shared (v exit) (flowUnits (discharged (s .cycle) e)) (entryArrivals s e) (omega arith);
+      }
+
+-- an exit's flow is within six of the exact one
+flow-within : (s : Segment) (rows : List (List ℕ)) → RowsFit s rows → (exit step : ℕ) → 0 < step → step ≤ s .cycle →
+    Within 6 (flowAt s rows exit step) (exactAt s rows exit step)
+unfolding flowAt exactAt
+flow-within s rows fit exit step first last =
+    let a = pairFlow rows 3 exit in
+    let x = landsIn s (s .left) (pairFlow rows 0 exit) step in
+    let y = landsIn s (s .through) (pairFlow rows 1 exit) step in
+    let z = landsIn s (s .right) (pairFlow rows 2 exit) step in
+    let e : a + x + y + z ≡ x + y + z + a = omega arith in
+    rw e
+    (exit-within a (lands-within s (s .left) (pairFlow rows 0 exit) step (fit .left exit) first last)
+    (lands-within s (s .through) (pairFlow rows 1 exit) step (fit .through exit) first last)
+    (lands-within s (s .right) (pairFlow rows 2 exit) step (fit .right exit) first last))
+
+-- of the output that a filling leaves
+pub demand-3 : (s : Segment) (rows : List (List ℕ)) (p : Profiles) → RowsFit s rows → Demand3 s rows (filledOf s rows p .output)
+unfolding filledOf
+demand-3 s rows p fit =
+    record {
+      flows = λ exit step h first last.
+          rw (number-of (s .cycle) (flowAt s rows) (drop (4 * s .cycle) (p .output)) exit step h first last) (flow-within s rows fit exit step first last);
+      left = entry-holds s (s .left) (pairFlow rows 0);
+      through = entry-holds s (s .through) (pairFlow rows 1);
+      right = entry-holds s (s .right) (pairFlow rows 2);
+    }

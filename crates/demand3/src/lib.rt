@@ -1,0 +1,1 @@
+// Demand 3 is a theorem in specs/: nothing runs here.

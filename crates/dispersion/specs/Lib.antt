@@ -1,0 +1,3 @@
+pub mod Dispersion
+pub mod Arrivals
+pub mod Cycles

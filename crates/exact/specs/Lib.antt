@@ -1,0 +1,4 @@
+pub mod Fraction
+pub mod Exact
+pub mod Run
+pub mod Exit

@@ -1,0 +1,2 @@
+pub mod ExactDispersion
+pub mod Laws

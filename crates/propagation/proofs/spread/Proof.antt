@@ -1,0 +1,42 @@
+use native.Mathlib.Omega.{arith}
+use Rattle.propagation.proofs.Spreading.{spread-adds, spread-done}
+use borrow.Author.Needs.{needs}
+use Rattle.propagation.proofs.spread.Statement.{statement}
+use Rattle.propagation.proofs.spread.Tie as tie
+
+alternate-requires : tie.Need-alternate-requires
+alternate-requires c κs = search needs
+
+last-cycle-requires : tie.Need-last-cycle-requires
+last-cycle-requires c κs = search needs
+
+arrival-time-requires : tie.Need-arrival-time-requires
+arrival-time-requires c κs = search needs
+
+add-entry-requires : tie.Need-add-entry-requires
+add-entry-requires c κs = spread-adds _ _ _ _ (c .before .before .before .before .before .before .before .before .before .alternate .ensures) (c .before .before .before .before .before .before .before .before .before .before .before .before .before .before .before .before .pre) (c .before .before .last-cycle .ensures) (c .before .arrival-time .ensures)
+
+same-length : tie.Need-same-length
+same-length c = search needs
+
+same-length-2 : tie.Need-same-length-2
+same-length-2 c = search needs
+
+same-length-3 : tie.Need-same-length-3
+same-length-3 c = search needs
+
+returns : tie.Need-returns
+returns c = spread-done _ _ _ _ (c .before .before .before .before .before .before .before .before .before .before .before .before .alternate .ensures) _ _ _ (c .before .before .before .before .before .last-cycle .ensures) (c .before .before .before .before .arrival-time .ensures) (c .before .before .add-entry .ensures)
+
+pub spread-spec : {M : Type 1} → statement M
+spread-spec =
+    tie.close
+    (tie.spec
+    alternate-requires
+    last-cycle-requires
+    arrival-time-requires
+    add-entry-requires
+    same-length
+    same-length-2
+    same-length-3
+    returns)

@@ -1,0 +1,2 @@
+pub mod Propagation
+pub mod Steps

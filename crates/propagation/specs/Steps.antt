@@ -1,0 +1,60 @@
+-- The filling entry by entry, and what each step asks of the numbers that it is lent.
+use Prim.Native.Nat.{ℕ, _+_, _*_, _≤_, _<_}
+use mathlib.Core.Path.{_≡_}
+use mathlib.Core.List.{List, [], _++_}
+use lib.ListN.{length, drop, getD}
+use Rattle.movements.specs.Movements.{flowUnits}
+use Rattle.segment.specs.declared.Entry.{Entry}
+use Rattle.segment.specs.declared.Segment.{Segment}
+use Rattle.validation.specs.Ranges.{Ranges}
+use Rattle.validation.specs.Ranges as validation
+use Rattle.metering.specs.Metering.{discharged}
+use Rattle.entries.specs.Entries.{entryProfile}
+use Rattle.dispersion.specs.Dispersion.{arrivalTimeOf, reported}
+use Rattle.arrivals.specs.Arrivals.{entryAdded}
+use Rattle.arrivals.specs.Arrivals as arrivals
+use Rattle.propagation.specs.Propagation.{Profiles, profiles, cycles, pairFlow}
+
+-- a discharge dispersed, its last cycle shared and landed, both cycles left in the work profiles
+unfoldable pub spreadStep : (running units : ℕ) → List ℕ → List ℕ → Profiles → Profiles
+spreadStep running units row q p =
+    profiles (entryAdded (length q) (arrivalTimeOf running) units (reported running q cycles) row (p .output))
+    (reported running q 1 ++ drop (length q) (p .first))
+    (reported running q cycles ++ drop (length q) (p .second))
+
+pub record SpreadAsks (running units : ℕ) (row q : List ℕ) (p : Profiles) : Type 0 where
+  pub time : running ≤ 300000
+  pub first : length q ≤ length (p .first)
+  pub second : length q ≤ length (p .second)
+  pub adds : arrivals.EntryRanges units (arrivalTimeOf running) row (reported running q cycles) (p .output)
+
+-- the same from an entry of the record
+unfoldable pub entryStep : (running c : ℕ) → Entry → List ℕ → Profiles → Profiles
+entryStep running c e row p = spreadStep running (flowUnits (discharged c e)) row (entryProfile c e) p
+
+-- profiles that are long enough
+pub record Room (c : ℕ) (p : Profiles) : Type 0 where
+  pub output : 4 * c ≤ length (p .output)
+  pub first : c ≤ length (p .first)
+  pub second : c ≤ length (p .second)
+
+pub record EntryAsks (running c : ℕ) (e : Entry) (row : List ℕ) (p : Profiles) : Type 0 where
+  pub time : running ≤ 300000
+  pub cycle : (30 ≤ c) × (c ≤ 240)
+  pub entry : validation.EntryRanges c e
+  pub shares : (j : ℕ) → getD row j 0 ≤ flowUnits (discharged c e)
+  pub room : Room c p
+  pub small : (k : ℕ) → k < 4 * c → getD (p .output) k 0 ≤ 4000000000
+
+-- four rows of four, each within its entry's flow units
+pub record RowsFit (s : Segment) (rows : List (List ℕ)) : Type 0 where
+  pub four : (i : ℕ) → i < 4 → length (getD rows i []) ≡ 4
+  pub left : (j : ℕ) → pairFlow rows 0 j ≤ flowUnits (discharged (s .cycle) (s .left))
+  pub through : (j : ℕ) → pairFlow rows 1 j ≤ flowUnits (discharged (s .cycle) (s .through))
+  pub right : (j : ℕ) → pairFlow rows 2 j ≤ flowUnits (discharged (s .cycle) (s .right))
+  pub access : (j : ℕ) → pairFlow rows 3 j ≤ flowUnits (s .access)
+
+pub record FillAsks (s : Segment) (rows : List (List ℕ)) (p : Profiles) : Type 0 where
+  pub ranges : Ranges s
+  pub shares : RowsFit s rows
+  pub room : Room (s .cycle) p

@@ -1,0 +1,88 @@
+-- The pair flows of an accepted working fit their entries, and the discharge volumes their limit.
+use Prim.Native.Nat.{ℕ, zero, suc, _+_, _≤_, _<_}
+use native.Mathlib.Omega.{arith}
+use mathlib.Core.Bool.{Bool, true, false, not, _||_}
+use mathlib.Core.Path.{_≡_, refl, ap, sym, _∙_}
+use mathlib.Core.List.{List, [], _∷_}
+use lib.ListN.{length, getD}
+use Rattle.refusal.specs.Refusal.{ok, need}
+use Rattle.movements.specs.declared.Counts.{Counts}
+use Rattle.movements.specs.declared.Seeds.{Seeds}
+use Rattle.movements.specs.Movements.{flowUnits}
+use Rattle.flows.specs.declared.Flows.{Flows}
+use Rattle.flows.specs.declared.FlowTable.{FlowTable}
+use Rattle.segment.specs.declared.Segment.{Segment}
+use Rattle.validation.specs.Ranges.{Ranges}
+use Rattle.metering.specs.Metering.{discharged, dischargesOf, discharged-volume}
+use Rattle.balance.specs.declared.Settling.{Settling}
+use Rattle.balance.specs.declared.Settling.the-variants.{Settled, Unsettled}
+use Rattle.balance.specs.declared.Balance.{Balance}
+use Rattle.balance.specs.Settling.{balanced}
+use Rattle.served.specs.Served.{noVolume, anyUnservedEntry, anyUnservedExit}
+use Rattle.pair_shares.specs.Shares.{WithinLimit, pairRow, pairRows, rowSum, row-adds}
+use Rattle.shares.specs.Sharing.{Told, bySettling, settledTo, answer, sharing}
+use Rattle.propagation.specs.Propagation.{pairFlow}
+use Rattle.propagation.specs.Steps.{RowsFit}
+use Rattle.working.specs.Working.{sharingOf}
+
+pub limits : (s : Segment) (o : Counts) → Ranges s → o ≡ dischargesOf s → WithinLimit o
+unfolding dischargesOf
+limits s o r e =
+    rw e (
+      omega (arith, discharged-volume (s .cycle) (s .left), r .left .volume),
+      omega (arith, discharged-volume (s .cycle) (s .through), r .through .volume),
+      omega (arith, discharged-volume (s .cycle) (s .right), r .right .volume),
+      r .access,
+    )
+
+-- pair flows that were shared come from cells
+record FromCells (o : Counts) (rows : List (List ℕ)) : Type 0 where
+  cells : FlowTable
+  is : rows ≡ pairRows cells o
+
+by-settling : (k : Settling) (n : ℕ) (c : FlowTable) (o : Counts) → bySettling k n c o .number ≡ 0 → FromCells o (bySettling k n c o .pairs)
+by-settling (Settled x) n c o e = record { cells = c; is = refl }
+by-settling (Unsettled x) n c o e = absurd (omega arith)
+
+by-tests : (t u : Bool) (b : Balance) (o : Counts) → answer o (need 13 t (need 14 u (ok b))) .number ≡ 0 →
+    FromCells o (answer o (need 13 t (need 14 u (ok b))) .pairs)
+unfolding need settledTo
+by-tests false u b o e = absurd (omega arith)
+by-tests true false b o e = absurd (omega arith)
+by-tests true true b o e = by-settling (b .settling) (b .rounds) (b .cells) o e
+
+from-cells : (o exits : Counts) (seeds : Seeds) → sharing o exits seeds .number ≡ 0 → FromCells o (sharing o exits seeds .pairs)
+unfolding sharing
+from-cells o exits seeds =
+    by-tests (not (noVolume o exits)) (not (anyUnservedEntry o exits seeds || anyUnservedExit o exits seeds)) (balanced o exits seeds) o
+
+-- a number of a row is no more than their sum
+number-le : (l : List ℕ) (j : ℕ) → getD l j 0 ≤ rowSum l
+number-le [] j = omega arith
+number-le (x ∷ l) zero = omega arith
+number-le (x ∷ l) (suc j) = omega (arith, number-le l j)
+
+row-le : (cells : Flows) (all j : ℕ) → getD (pairRow cells all) j 0 ≤ all
+row-le cells all j = omega (arith, number-le (pairRow cells all) j, row-adds cells all)
+
+rows-four : (cells : FlowTable) (o : Counts) (i : ℕ) → i < 4 → length (getD (pairRows cells o) i []) ≡ 4
+unfolding pairRows
+rows-four cells o zero h = refl
+rows-four cells o (suc zero) h = refl
+rows-four cells o (suc (suc zero)) h = refl
+rows-four cells o (suc (suc (suc zero))) h = refl
+rows-four cells o (suc (suc (suc (suc i)))) h = absurd (omega arith)
+
+pub rows-fit : (s : Segment) → sharingOf s .number ≡ 0 → RowsFit s (sharingOf s .pairs)
+unfolding sharingOf dischargesOf pairRows
+rows-fit s e =
+    let f = from-cells (dischargesOf s) (s .exits) (s .seeds) e in
+    let c = f .cells in
+    rw (f .is)
+    (record {
+      four = rows-four c (dischargesOf s);
+      left = row-le (c .left) (flowUnits (discharged (s .cycle) (s .left)));
+      through = row-le (c .through) (flowUnits (discharged (s .cycle) (s .through)));
+      right = row-le (c .right) (flowUnits (discharged (s .cycle) (s .right)));
+      access = row-le (c .access) (flowUnits (s .access));
+    })

@@ -1,0 +1,93 @@
+use Rattle.propagation.specs.Propagation.{profiles}
+use native.Mathlib.Omega.{arith}
+use mathlib.Core.Path.{refl, sym, _∙_}
+use Rattle.working.proofs.Rows.{limits}
+use Rattle.working.proofs.Deciding.{told-number, told-sum, told-rounds, told-pairs, shares-refused, shares-unsettled, fill-asks, filled, shares-worked}
+use borrow.Author.Needs.{needs}
+use Rattle.working.proofs.work_accepted.Statement.{statement}
+use Rattle.working.proofs.work_accepted.Tie as tie
+
+discharges-requires : tie.Need-discharges-requires
+discharges-requires c κs = search needs
+
+decide-requires : tie.Need-decide-requires
+decide-requires c κs = limits _ _ (c .before .before .before .before .pre .0) (c .discharges .ensures)
+
+enum-told : tie.Need-enum-told
+enum-told c = search needs
+
+refused-requires : tie.Need-refused-requires
+refused-requires c κs = search needs
+
+enum-told-2 : tie.Need-enum-told-2
+enum-told-2 c = search needs
+
+refused-requires-2 : tie.Need-refused-requires-2
+refused-requires-2 c κs = search needs
+
+enum-known-verdict : tie.Need-enum-known-verdict
+enum-known-verdict c = search needs
+
+refused-requires-3 : tie.Need-refused-requires-3
+refused-requires-3 c κs = search needs
+
+enum-known-verdict-2 : tie.Need-enum-known-verdict-2
+enum-known-verdict-2 c = search needs
+
+rows-of-requires : tie.Need-rows-of-requires
+rows-of-requires c κs = search needs
+
+fill-requires : tie.Need-fill-requires
+fill-requires c κs = fill-asks _ _ (c .before .before .before .before .before .before .before .before .before .before .before .before .pre .0) (c .before .before .before .before .before .before .before .before .before .before .before .before .pre .1) (told-number _ _ (c .before .before .before .before .before .before .before .decide .result) (c .before .before .before .before .before .before .before .before .discharges .ensures) (c .before .before .before .before .before .before .before .decide .ensures) _ (c .before .before .before .before .before .verdict2 .given .1)) (c .before .before .before .rows-of .ensures ∙ told-pairs _ _ (c .before .before .before .before .before .before .before .decide .result) (c .before .before .before .before .before .before .before .before .discharges .ensures) (c .before .before .before .before .before .before .before .decide .ensures))
+
+worked-requires : tie.Need-worked-requires
+worked-requires c κs = filled _ (profiles _ _ _) (c .before .before .before .before .before .before .before .before .before .before .before .before .before .before .before .before .before .before .before .before .pre .0) (c .before .before .before .before .before .before .before .before .before .before .before .rows-of .ensures) (profiles _ _ _) (c .before .before .before .before .before .before .before .fill .ensures)
+
+returns : tie.Need-returns
+returns c = shares-refused _ _ 13 (told-number _ _ _ (c .before .before .before .before .discharges .ensures) (c .before .before .before .decide .ensures) _ (c .before .enum-told .given .1)) refl refl (c .refused .ensures)
+
+returns-2 : tie.Need-returns-2
+returns-2 c = shares-refused _ _ 14 (told-number _ _ _ (c .before .before .before .before .discharges .ensures) (c .before .before .before .decide .ensures) _ (c .before .enum-told2 .given .1)) refl refl (c .refused2 .ensures)
+
+returns-3 : tie.Need-returns-3
+returns-3 c = shares-unsettled _ _ _ (told-number _ _ _ (c .before .before .before .before .before .discharges .ensures) (c .before .before .before .before .decide .ensures) _ (c .before .before .verdict .given .1)) (told-sum _ _ _ (c .before .before .before .before .before .discharges .ensures) (c .before .before .before .before .decide .ensures) _ (c .before .before .verdict .given .1)) (c .refused3 .ensures)
+
+same-length : tie.Need-same-length
+same-length c = search needs
+
+same-length-2 : tie.Need-same-length-2
+same-length-2 c = search needs
+
+same-length-3 : tie.Need-same-length-3
+same-length-3 c = search needs
+
+returns-4 : tie.Need-returns-4
+returns-4 c = let r = c .before .before .before .before .before .before .before .before .before .before .before .before .before .before .before .before .decide .result in
+    let d = c .before .before .before .before .before .before .before .before .before .before .before .before .before .before .before .before .before .discharges .ensures in
+    let e = c .before .before .before .before .before .before .before .before .before .before .before .before .before .before .before .before .decide .ensures in
+    let v = c .before .before .before .before .before .before .before .before .before .before .before .before .before .before .verdict2 .given .1 in
+    shares-worked _ _ (told-number _ _ r d e _ v) (told-sum _ _ r d e _ v) (told-rounds _ _ r d e) (told-pairs _ _ r d e) (c .before .before .before .before .before .before .before .before .before .before .before .before .rows-of .ensures) (profiles _ _ _) (c .before .before .before .before .before .before .before .before .fill .ensures) (c .worked .ensures)
+
+pub work-accepted-spec : {M : Type 1} → statement M
+work-accepted-spec =
+    tie.close
+    (tie.spec
+    discharges-requires
+    decide-requires
+    enum-told
+    refused-requires
+    enum-told-2
+    refused-requires-2
+    enum-known-verdict
+    refused-requires-3
+    enum-known-verdict-2
+    rows-of-requires
+    fill-requires
+    worked-requires
+    returns
+    returns-2
+    returns-3
+    same-length
+    same-length-2
+    same-length-3
+    returns-4)
