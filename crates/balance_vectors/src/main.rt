@@ -45,39 +45,13 @@ fn seeds_at(s: &[u8], at: usize) -> Seeds
     }
 }
 
-fn wide(n: u32) -> u64
-    ensures { λ r. ⌜ r ≤ 4294967295 ⌝ }
-{
-    n as u64
-}
-
-fn word8_at(s: &[u8], at: usize) -> u64
-    requires { ⌜ at + 8 ≤ length (now s) ⌝ }
-{
-    wide(octets::word4_at(s, at)) + 4294967296 * wide(octets::word4_at(s, at + 4))
-}
-
-// A float's bits; one pattern for every NaN.
-fn bits(x: f64) -> u64 {
-    if x != x {
-        return 0x7ff8_0000_0000_0000;
-    }
-    f64::to_bits(x)
-}
-
-fn float_differs(s: &[u8], at: usize, x: f64) -> bool
-    requires { ⌜ at + 8 ≤ length (now s) ⌝ }
-{
-    word8_at(s, at) != bits(x)
-}
-
 fn cell_row_differs(s: &[u8], at: usize, x: Flows) -> bool
     requires { ⌜ at + 32 ≤ length (now s) ⌝ }
 {
-    float_differs(s, at, x.left)
-        | float_differs(s, at + 8, x.through)
-        | float_differs(s, at + 16, x.right)
-        | float_differs(s, at + 24, x.access)
+    vectors::float_differs(s, at, x.left)
+        | vectors::float_differs(s, at + 8, x.through)
+        | vectors::float_differs(s, at + 16, x.right)
+        | vectors::float_differs(s, at + 24, x.access)
 }
 
 fn cells_differ(s: &[u8], at: usize, x: FlowTable) -> bool
@@ -87,24 +61,6 @@ fn cells_differ(s: &[u8], at: usize, x: FlowTable) -> bool
         | cell_row_differs(s, at + 32, x.through)
         | cell_row_differs(s, at + 64, x.right)
         | cell_row_differs(s, at + 96, x.access)
-}
-
-fn pair_row_differs(s: &[u8], at: usize, x: [u32; 4]) -> bool
-    requires { ⌜ at + 16 ≤ length (now s) ⌝ }
-{
-    (octets::word4_at(s, at) != x[0])
-        | (octets::word4_at(s, at + 4) != x[1])
-        | (octets::word4_at(s, at + 8) != x[2])
-        | (octets::word4_at(s, at + 12) != x[3])
-}
-
-fn pairs_differ(s: &[u8], at: usize, x: [[u32; 4]; 4]) -> bool
-    requires { ⌜ at + 64 ≤ length (now s) ⌝ }
-{
-    pair_row_differs(s, at, x[0])
-        | pair_row_differs(s, at + 16, x[1])
-        | pair_row_differs(s, at + 32, x[2])
-        | pair_row_differs(s, at + 48, x[3])
 }
 
 fn outcome_differs(s: &[u8], outcome: u32, rounds: u32) -> bool
@@ -120,10 +76,10 @@ fn balance_differs(s: &[u8], x: Balance) -> bool
     let cells = cells_differ(s, 68, x.cells);
     match settling {
         Settling::Settled(sum) => {
-            cells | outcome_differs(s, 1, x.rounds) | float_differs(s, 60, sum)
+            cells | outcome_differs(s, 1, x.rounds) | vectors::float_differs(s, 60, sum)
         }
         Settling::Unsettled(sum) => {
-            cells | outcome_differs(s, 0, x.rounds) | float_differs(s, 60, sum)
+            cells | outcome_differs(s, 0, x.rounds) | vectors::float_differs(s, 60, sum)
         }
     }
 }
@@ -144,7 +100,7 @@ fn unrun_differs(s: &[u8]) -> bool
         right: none,
         access: none,
     };
-    outcome_differs(s, 2, 0) | float_differs(s, 60, 0.0) | cells_differ(s, 68, table)
+    outcome_differs(s, 2, 0) | vectors::float_differs(s, 60, 0.0) | cells_differ(s, 68, table)
 }
 
 fn verdict_differs(s: &[u8], verdict: Verdict, rounds: u32, b: Balance) -> bool
@@ -152,10 +108,10 @@ fn verdict_differs(s: &[u8], verdict: Verdict, rounds: u32, b: Balance) -> bool
 {
     match verdict {
         Verdict::Shared(sum) => {
-            balance_differs(s, b) | float_differs(s, 60, sum) | (rounds != b.rounds)
+            balance_differs(s, b) | vectors::float_differs(s, 60, sum) | (rounds != b.rounds)
         }
         Verdict::Unsettled(sum) => {
-            balance_differs(s, b) | float_differs(s, 60, sum) | (rounds != 0)
+            balance_differs(s, b) | vectors::float_differs(s, 60, sum) | (rounds != 0)
         }
         Verdict::NoVolume => unrun_differs(s) | (rounds != 0),
         Verdict::Unserved => unrun_differs(s) | (rounds != 0),
@@ -169,7 +125,7 @@ fn answer_differs(s: &[u8], o: Counts, exits: Counts, seeds: Seeds) -> bool
     let x = shares::decide(o, exits, seeds);
     let verdict = x.verdict;
     (octets::word4_at(s, 48) != shares::number_of(verdict))
-        | pairs_differ(s, 196, pair_flows::rows_of(x.pairs))
+        | vectors::rows_differ(s, 196, pair_flows::rows_of(x.pairs))
         | verdict_differs(s, verdict, x.rounds, balance::balanced(o, exits, seeds))
 }
 

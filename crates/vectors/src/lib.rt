@@ -1,8 +1,9 @@
 // Support of the test programs: cases of a vector file from standard input, and what is said of them. docs/VECTORS.md has the format.
 ghost use mathlib.Core.Path.{_≡_};
 ghost use Prim.Native.Nat.{_+_, _-_, _*_, _≤_, _<_, _^_};
+ghost use lib.Ieee.{binary64, toBits};
 ghost use lib.ListN.{length};
-ghost use Rattle.vectors.specs.Vectors.{pattern, wordsDiffer};
+ghost use Rattle.vectors.specs.Vectors.{floatDiffers, pattern, rowDiffers, rowsDiffer, wordsDiffer};
 use libc::STDIN_FILENO;
 use libc::STDOUT_FILENO;
 
@@ -76,4 +77,43 @@ pub fn numbers_differ(expected: &[u8], at: usize, run: &[u32]) -> bool
         i += 1;
     }
     differ
+}
+
+fn row_differs(expected: &[u8], at: usize, row: [u32; 4]) -> bool
+    requires { ⌜ at + 16 ≤ length (now expected) ⌝ }
+    ensures { λ r. ⌜ r ≡ rowDiffers (now (expected .entry)) at row ⌝ }
+{
+    (octets::word4_at(expected, at) != row[0])
+        | (octets::word4_at(expected, at + 4) != row[1])
+        | (octets::word4_at(expected, at + 8) != row[2])
+        | (octets::word4_at(expected, at + 12) != row[3])
+}
+
+// Whether some of the sixteen pair flows differs, in rows from a place on.
+pub fn rows_differ(expected: &[u8], at: usize, rows: [[u32; 4]; 4]) -> bool
+    requires { ⌜ at + 64 ≤ length (now expected) ⌝ }
+    ensures { λ r. ⌜ r ≡ rowsDiffer (now (expected .entry)) at rows ⌝ }
+{
+    row_differs(expected, at, rows[0])
+        | row_differs(expected, at + 16, rows[1])
+        | row_differs(expected, at + 32, rows[2])
+        | row_differs(expected, at + 48, rows[3])
+}
+
+// A float's bits, with one pattern for every NaN.
+fn bits(x: f64) -> u64
+    ensures { λ r. ⌜ r ≡ toBits binary64 x ⌝ }
+{
+    if x != x {
+        return 0x7ff8_0000_0000_0000;
+    }
+    f64::to_bits(x)
+}
+
+// Whether a float differs from the bits expected.
+pub fn float_differs(expected: &[u8], at: usize, x: f64) -> bool
+    requires { ⌜ at + 8 ≤ length (now expected) ⌝ }
+    ensures { λ r. ⌜ r ≡ floatDiffers (now (expected .entry)) at x ⌝ }
+{
+    octets::word8_at(expected, at) != bits(x)
 }

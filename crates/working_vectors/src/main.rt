@@ -1,0 +1,158 @@
+// Runs the working on the vectors of docs/VECTORS.md and compares the answer and every number of the three profiles.
+ghost use Prim.Native.Nat.{_+_, _*_, _≤_};
+ghost use lib.ListN.{length};
+use exit_figures::ExitFigures;
+use working::Outcome;
+use working::Working;
+
+// The expected numbers of a case, after its record and the profiles' lengths: number, last sum, platoon arrival time, rounds, pair flows,
+// three exits' figures, access total, blocked steps; then the three profiles.
+fn outcome_differs(expected: &[u8], outcome: Outcome) -> bool
+    requires { ⌜ 156 ≤ length (now expected) ⌝ }
+{
+    let number = octets::word4_at(expected, 0);
+    match outcome {
+        Outcome::Worked(sum) => (number != 0) | vectors::float_differs(expected, 4, sum),
+        Outcome::Refused(n) => (number != n) | vectors::float_differs(expected, 4, 0.0),
+        Outcome::Unsettled(sum) => (number != 15) | vectors::float_differs(expected, 4, sum),
+    }
+}
+
+fn figures_differ(expected: &[u8], at: usize, exit: ExitFigures) -> bool
+    requires { ⌜ at + 20 ≤ length (now expected) ⌝ }
+{
+    (octets::word8_at(expected, at) != exit.total)
+        | (octets::word8_at(expected, at + 8) != exit.green)
+        | (octets::word4_at(expected, at + 16) != exit.permille)
+}
+
+fn answer_differs(expected: &[u8], answer: Working) -> bool
+    requires { ⌜ 156 ≤ length (now expected) ⌝ }
+{
+    let outcome = answer.outcome;
+    outcome_differs(expected, outcome)
+        | (octets::word4_at(expected, 12) != answer.arrival)
+        | (octets::word4_at(expected, 16) != answer.rounds)
+        | vectors::rows_differ(expected, 20, pair_flows::rows_of(answer.pairs))
+        | figures_differ(expected, 84, answer.left)
+        | figures_differ(expected, 104, answer.through)
+        | figures_differ(expected, 124, answer.right)
+        | (octets::word8_at(expected, 144) != answer.access)
+        | (octets::word4_at(expected, 152) != answer.blocked)
+}
+
+// Every number of a profile, against those in front.
+fn profile_differs(expected: &[u8], run: &[u32]) -> bool {
+    if expected.len() / 4 < run.len() {
+        return true;
+    }
+    vectors::numbers_differ(expected, 0, run)
+}
+
+// What stands after so many numbers.
+fn after<'a>(expected: &'a [u8], n: usize) -> &'a [u8] {
+    if expected.len() / 4 < n {
+        return &expected[0..0];
+    }
+    &expected[4 * n..]
+}
+
+fn profiles_differ(expected: &[u8], output: &[u32], first: &[u32], second: &[u32]) -> bool {
+    let rest = after(expected, output.len());
+    profile_differs(expected, output)
+        | profile_differs(rest, first)
+        | profile_differs(after(rest, first.len()), second)
+}
+
+// The three profiles as they are lent.
+fn lend(output: &mut [u32], first: &mut [u32], second: &mut [u32])
+    requires { ⌜ (length (now output) ≤ 1200) × (length (now first) ≤ 1200) × (length (now second) ≤ 1200) ⌝ }
+{
+    vectors::fill_pattern(output, 3000000000);
+    vectors::fill_pattern(first, 3100000000);
+    vectors::fill_pattern(second, 3200000000);
+}
+
+// One call, on profiles lent with patterns.
+fn call_differs(
+    record: &[u8],
+    expected: &[u8],
+    output: &mut [u32],
+    first: &mut [u32],
+    second: &mut [u32],
+) -> bool
+    requires { ⌜ 156 ≤ length (now expected) ⌝ }
+    requires { ⌜ (length (now output) ≤ 1200) × (length (now first) ≤ 1200) × (length (now second) ≤ 1200) ⌝ }
+{
+    lend(output, first, second);
+    let answer = working::work(record, output, first, second);
+    answer_differs(expected, answer)
+        | profiles_differ(&expected[156..], &output[..], &first[..], &second[..])
+}
+
+fn body_differs(record: &[u8], expected: &[u8], o: usize, f: usize, s: usize) -> bool
+    requires { ⌜ 156 ≤ length (now expected) ⌝ }
+    requires { ⌜ (o ≤ 1200) × (f ≤ 1200) × (s ≤ 1200) ⌝ }
+{
+    let mut output = [0u32; 1200];
+    let mut first = [0u32; 1200];
+    let mut second = [0u32; 1200];
+    call_differs(
+        record,
+        expected,
+        &mut output[0..o],
+        &mut first[0..f],
+        &mut second[0..s],
+    )
+}
+
+fn lengths_differ(record: &[u8], rest: &[u8]) -> bool
+    requires { ⌜ 12 ≤ length (now rest) ⌝ }
+{
+    let o = octets::word4_at(rest, 0) as usize;
+    let f = octets::word4_at(rest, 4) as usize;
+    let s = octets::word4_at(rest, 8) as usize;
+    if 1200 < o {
+        return true;
+    }
+    if 1200 < f {
+        return true;
+    }
+    if 1200 < s {
+        return true;
+    }
+    if rest.len() != 168 + 4 * (o + f + s) {
+        return true;
+    }
+    body_differs(record, &rest[12..], o, f, s)
+}
+
+fn case_differs(body: &[u8]) -> bool {
+    if body.len() < 14 {
+        return true;
+    }
+    let at = 2 + octets::word2_at(body, 0) as usize;
+    if body.len() < at + 12 {
+        return true;
+    }
+    lengths_differ(&body[2..at], &body[at..])
+}
+
+fn next_differs() -> bool {
+    let mut body = [0u8; 16384];
+    let n = vectors::read_case(&mut body);
+    case_differs(&body[0..n])
+}
+
+fn main() {
+    let cases = vectors::read_word();
+    let mut differing: u32 = 0;
+    let mut i: u32 = 0;
+    while i < cases {
+        if next_differs() {
+            differing = vectors::differing(i, differing);
+        }
+        i += 1;
+    }
+    vectors::finish(cases, differing);
+}
