@@ -39,6 +39,7 @@ pub fn file() -> File {
     add_extremes(&mut file);
     add_balances(&mut file);
     add_random(&mut file);
+    add_short_cycles(&mut file);
     add_long(&mut file);
     file.push("wrong".into(), case(&busy(CYCLE_LEAST), [120, 30, 30], 1).1);
     file
@@ -300,6 +301,16 @@ fn add_random(file: &mut File) {
             lengths = lengths.map(|length| length + random.below(9) as usize);
         }
         add(file, &card, lengths);
+    }
+}
+
+/// Many more of short cycles, so that the file stays small.
+fn add_short_cycles(file: &mut File) {
+    let mut random = Random::new(SEED + 2);
+    for _ in 0..1460 {
+        let cycle = random.between(CYCLE_LEAST, 44);
+        let card = random_card(&mut random, cycle);
+        add(file, &card, exact(cycle));
     }
 }
 
