@@ -1,0 +1,72 @@
+// The README's examples, run: a record is filed with a title, found again, and worked.
+use archive_format::Answer;
+use discharge::Discharged;
+use libc::STDOUT_FILENO;
+use working::Outcome;
+
+// The paper's record 1: cycle 60, running time 40000 ms, headway 4100 ms, 360 veh/h in by access and out through.
+fn record() -> [u8; 68] {
+    let mut r = [0u8; 68];
+    r[0] = 1;
+    r[4] = 60;
+    r[6] = 64;
+    r[7] = 156;
+    r[10] = 4;
+    r[11] = 16;
+    r[36] = 104;
+    r[37] = 1;
+    r[40] = 104;
+    r[41] = 1;
+    r[49] = 30;
+    r
+}
+
+fn say(label: &[u8], n: u64) {
+    io::write_all(STDOUT_FILENO, label);
+    io::print_decimal(STDOUT_FILENO, n);
+    io::write_all(STDOUT_FILENO, b"\n");
+}
+
+fn tell(label: &[u8], answer: Answer) {
+    match answer {
+        Answer::Is(n) => say(label, n as u64),
+        Answer::Refused(n) => say(b"refused ", n as u64),
+    }
+}
+
+fn file(record: &[u8]) {
+    let archive = archive_format::empty();
+    let mut bigger = [0u8; 87];
+    tell(b"new length ", archive_add::add(&archive, record, b"Elm Street", &mut bigger));
+    tell(b"place of record 1: ", archive_read::find(&bigger, 1));
+    io::write_all(STDOUT_FILENO, archive_read::title(&bigger, 1));
+    io::write_all(STDOUT_FILENO, b"\n");
+}
+
+fn discharge_of(record: &[u8]) {
+    let mut profile = [0u32; 720];
+    match discharge::discharge(record, &mut profile) {
+        Discharged::Volumes { left: _, through, right: _ } => say(b"through discharges ", through as u64),
+        Discharged::Refused(n) => say(b"refused ", n as u64),
+    }
+}
+
+fn work(record: &[u8]) {
+    let mut output = [0u32; 960];
+    let mut first = [0u32; 240];
+    let mut second = [0u32; 240];
+    let w = working::work(record, &mut output, &mut first, &mut second);
+    let outcome = w.outcome;
+    match outcome {
+        Outcome::Worked(_) => say(b"permille on green ", w.through.permille as u64),
+        Outcome::Refused(n) => say(b"refused ", n as u64),
+        Outcome::Unsettled(_) => say(b"refused ", 15),
+    }
+}
+
+fn main() {
+    let r = record();
+    file(&r);
+    discharge_of(&r);
+    work(&r);
+}
