@@ -14,7 +14,7 @@ use signal::Post;
 
 pub const SIZE: usize = 68;
 
-const CYCLE_AT: usize = 4;
+pub const CYCLE_AT: usize = 4;
 
 const RUNNING_AT: usize = 6;
 

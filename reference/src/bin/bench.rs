@@ -1,7 +1,9 @@
 //! Times two report programs side by side on the same archives and prints medians and their ratio.
 //! usage: bench PRODUCT REFERENCE [REPEATS]
+//!        bench archive few|many|refused CYCLE RECORDS    (the bytes of one of its archives, for a profiler)
 
 use std::fs::{self, File};
+use std::io::{self, Write};
 use std::path::{Path, PathBuf};
 use std::process::{Command, ExitCode, Stdio};
 use std::time::{Duration, Instant};
@@ -64,6 +66,19 @@ fn archive(kind: Kind, cycle: u32, records: usize) -> Vec<u8> {
     archive
 }
 
+fn print_archive(arguments: &[String]) {
+    let kind = match arguments[0].as_str() {
+        "few" => Kind::Few,
+        "many" => Kind::Many,
+        _ => Kind::Refused,
+    };
+    let cycle = arguments[1].parse().expect("CYCLE");
+    let records = arguments[2].parse().expect("RECORDS");
+    io::stdout()
+        .write_all(&archive(kind, cycle, records))
+        .expect("standard output");
+}
+
 fn once(program: &Path, input: &Path) -> Duration {
     let stdin = File::open(input).expect("the archive");
     let start = Instant::now();
@@ -96,6 +111,10 @@ fn main() -> ExitCode {
     if arguments.len() < 3 {
         eprintln!("usage: bench PRODUCT REFERENCE [REPEATS]");
         return ExitCode::FAILURE;
+    }
+    if arguments[1] == "archive" && arguments.len() == 5 {
+        print_archive(&arguments[2..]);
+        return ExitCode::SUCCESS;
     }
     let repeats = arguments.get(3).map_or(41, |n| n.parse().expect("REPEATS"));
     let directory: PathBuf = std::env::temp_dir().join("segment-bench");

@@ -1,0 +1,61 @@
+-- What the working of a record answers does not depend on the profiles that it is lent, where they have room for every cycle.
+use Prim.Native.Nat.{ℕ, _*_, _≤_}
+use native.Mathlib.Omega.{arith}
+use mathlib.Core.Bool.{Bool, true, false, _&&_}
+use mathlib.Core.Path.{_≡_, refl}
+use mathlib.Core.List.{List}
+use lib.Dec.{leb, eqb}
+use lib.ListN.{length, replicate, length-replicate}
+use borrow.Author.Tests.{le-leb}
+use Rattle.refusal.specs.Refusal.{Or, refused, ok, need, andThen, pick}
+use Rattle.segment.specs.declared.Segment.{Segment}
+use Rattle.validation.specs.Validation.{checkOf}
+use Rattle.validation.specs.Ranges.{accepted}
+use Rattle.validation.specs.Accepting.{acceptWith}
+use Rattle.shares.specs.Sharing.{Told}
+use Rattle.propagation.specs.Propagation.{Profiles, filledOf}
+use Rattle.propagation.specs.Steps.{Room}
+use Rattle.working.specs.declared.Outcome.the-variants.{Refused, Unsettled}
+use Rattle.working.specs.declared.Working.{Working}
+use Rattle.working.specs.Working.{called, refusedWith, workedOf, sharingOf, bySharing, byRecord, callOf}
+use Rattle.report.specs.Report.{longest}
+
+abbrev fits : Profiles → Segment → Bool
+fits p s = leb (4 * s .cycle) (length (p .output)) && leb (s .cycle) (length (p .first)) && leb (s .cycle) (length (p .second))
+
+roomy : (p : Profiles) (s : Segment) → s .cycle ≤ 240 → Room 240 p → fits p s ≡ true
+roomy p s h r =
+    let a : 4 * s .cycle ≤ length (p .output) = omega (arith, r .output) in
+    let b : s .cycle ≤ length (p .first) = omega (arith, r .first) in
+    let d : s .cycle ≤ length (p .second) = omega (arith, r .second) in
+    rw (le-leb _ _ a, le-leb _ _ b, le-leb _ _ d)
+
+abbrev unworked : Told → Working
+unworked t = refusedWith (pick (eqb (t .number) 15) (Unsettled (t .sum)) (Refused (t .number)))
+
+sharing-answer : (s : Segment) (t : Told) (p p′ : Profiles) → bySharing s t p .answer ≡ bySharing s t p′ .answer
+sharing-answer s t p p′ = go (eqb (t .number) 0)
+  where
+    go : (b : Bool)
+        → pick b (called (workedOf s t) (filledOf s (t .pairs) p)) (called (unworked t) p) .answer
+        ≡ pick b (called (workedOf s t) (filledOf s (t .pairs) p′)) (called (unworked t) p′) .answer
+    go true = refl
+    go false = refl
+
+pub same-answer : (l : List ℕ) (p p′ : Profiles) → Room 240 p → Room 240 p′ → callOf l p .answer ≡ callOf l p′ .answer
+unfolding callOf acceptWith need
+same-answer l p p′ r r′ = go (checkOf l) refl
+  where
+    go : (x : Or Segment) → checkOf l ≡ x
+        → byRecord (andThen x (λ s. need 16 (fits p s) (ok s))) p .answer ≡ byRecord (andThen x (λ s. need 16 (fits p′ s) (ok s))) p′ .answer
+    go (refused n) e = refl
+    go (ok s) e =
+        let h : s .cycle ≤ 240 = accepted l s e .ranges .cycle .1 in
+        rw (roomy p s h r, roomy p′ s h r′) (sharing-answer s (sharingOf s) p p′)
+
+pub longest-room : Room 240 longest
+unfolding longest
+longest-room =
+    let four : length (replicate {A = ℕ} 960 0) ≡ 960 = length-replicate {A = ℕ} 960 0 in
+    let one : length (replicate {A = ℕ} 240 0) ≡ 240 = length-replicate {A = ℕ} 240 0 in
+    record { output = omega arith; first = omega arith; second = omega arith }

@@ -1,0 +1,93 @@
+// The records of an archive, each worked from its own bytes in one pass. The work profiles are the caller's, so that they are made once.
+ghost use mathlib.Core.Path.{_≡_};
+ghost use lib.ListN.{length};
+ghost use Rattle.text.specs.Text.{Wrote};
+ghost use Rattle.propagation.specs.Propagation.{profiles};
+ghost use Rattle.propagation.specs.Steps.{Room};
+ghost use Rattle.archive_format.specs.Archive.{filedFrom};
+ghost use Rattle.report.specs.Report.{archiveText, inputText, recordsText, segmentText};
+ghost use Rattle.report.specs.Running.{Runs};
+use archive_format::SEGMENTS;
+use archive_read::opening::Opened;
+use archive_read::opening::open;
+
+fn segment_text(
+    text: &mut [u8],
+    at: usize,
+    bytes: &[u8],
+    output: &mut [u32],
+    first: &mut [u32],
+    second: &mut [u32],
+) -> usize
+    requires { ⌜ (length (now bytes) ≡ 68) × Room 240 (profiles (now output) (now first) (now second)) ⌝ }
+    ensures { λ r. ⌜ Wrote (now (text .entry)) at (segmentText (now (bytes .entry))) (now (text .exit)) r ⌝ }
+{
+    let number = octets::word4_at(bytes, 0);
+    let cycle = octets::word2_at(bytes, segment::CYCLE_AT);
+    let w = working::work(bytes, output, first, second);
+    report_lines::record_text(text, at, number, cycle, w)
+}
+
+// So many records from place 0 on, in order: the next record starts after the title.
+fn records_text(
+    text: &mut [u8],
+    at: usize,
+    archive: &[u8],
+    count: usize,
+    output: &mut [u32],
+    first: &mut [u32],
+    second: &mut [u32],
+) -> usize
+    requires { ⌜ Runs count (now archive) × Room 240 (profiles (now output) (now first) (now second)) ⌝ }
+    ensures { λ r. ⌜ Wrote (now (text .entry)) at (recordsText (filedFrom 68 count (now (archive .entry)) 0)) (now (text .exit)) r ⌝ }
+{
+    let mut left = count;
+    let mut place: usize = 0;
+    let mut p = at;
+    while 0 < left {
+        let end = place + segment::SIZE;
+        p = segment_text(text, p, &archive[place..end], output, first, second);
+        place = end + 1 + octets::byte_at(archive, end) as usize;
+        left -= 1;
+    }
+    p
+}
+
+fn archive_text(
+    text: &mut [u8],
+    at: usize,
+    archive: &[u8],
+    output: &mut [u32],
+    first: &mut [u32],
+    second: &mut [u32],
+) -> usize
+    requires { ⌜ Room 240 (profiles (now output) (now first) (now second)) ⌝ }
+    ensures { λ r. ⌜ Wrote (now (text .entry)) at (archiveText (now (archive .entry))) (now (text .exit)) r ⌝ }
+{
+    let opened = open(SEGMENTS, archive);
+    match opened {
+        Opened::Invalid(k) => report_lines::archive_refused_line(text, at, k),
+        Opened::Valid {
+            count,
+            trailer: _,
+            last: _,
+        } => records_text(text, at, archive, count, output, first, second),
+    }
+}
+
+pub(crate) fn input_text(
+    text: &mut [u8],
+    at: usize,
+    archive: &[u8],
+    output: &mut [u32],
+    first: &mut [u32],
+    second: &mut [u32],
+) -> usize
+    requires { ⌜ Room 240 (profiles (now output) (now first) (now second)) ⌝ }
+    ensures { λ r. ⌜ Wrote (now (text .entry)) at (inputText (now (archive .entry))) (now (text .exit)) r ⌝ }
+{
+    if 65536 < archive.len() {
+        return report_lines::archive_refused_line(text, at, 2);
+    }
+    archive_text(text, at, archive, output, first, second)
+}

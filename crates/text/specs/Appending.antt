@@ -1,0 +1,63 @@
+-- Pieces one after another are one piece; and what a buffer holds where all of it fits.
+use Prim.Native.Nat.{ℕ, suc, _+_, _≤_, min, max}
+use native.Mathlib.Omega.{arith}
+use mathlib.Core.Bool.{Bool, true, false}
+use mathlib.Core.Path.{_≡_, refl, ap, sym, _∙_}
+use mathlib.Core.List.{List, [], _∷_, _++_}
+use lib.Dec.{leb}
+use lib.ListN.{length, take, drop, set, length-append}
+use lib.Seq.{sets, length-sets, set-out, sets-eq}
+use borrow.Author.Tests.{leb-true, leb-false}
+use Rattle.text.specs.Text.{Cursor, cursor, put, nextPlace, Wrote}
+
+-- past the end nothing is stored
+pub sets-out : (l : List ℕ) (i : ℕ) (vs : List ℕ) → length l ≤ i → sets l i vs ≡ l
+sets-out l i [] h = refl
+sets-out l i (v ∷ vs) h = rw (set-out l i v h) (sets-out l (suc i) vs (omega arith))
+
+sets-append : (l : List ℕ) (i : ℕ) (a b : List ℕ) → sets l i (a ++ b) ≡ sets (sets l i a) (i + length a) b
+sets-append l i [] b = let e : i + 0 ≡ i = omega arith in rw e
+sets-append l i (x ∷ a) b =
+    let e : i + suc (length a) ≡ suc i + length a = omega arith in
+    rw e (sets-append (set l i x) (suc i) a b)
+
+by-room : (l : List ℕ) (at i : ℕ) (vs : List ℕ) → at ≤ i → sets l (max at (min i (length l))) vs ≡ sets l i vs
+by-room l at i vs le = go (leb i (length l)) refl
+  where
+    go : (t : Bool) → leb i (length l) ≡ t → sets l (max at (min i (length l))) vs ≡ sets l i vs
+    go true h = let q : max at (min i (length l)) ≡ i = omega (arith, leb-true i (length l) h) in rw q
+    go false h =
+        let q : length l ≤ max at (min i (length l)) = omega (arith, leb-false i (length l) h) in
+        sets-out l _ vs q ∙ sym (sets-out l i vs (omega (arith, leb-false i (length l) h)))
+
+pub put-append : (c : Cursor) (a b : List ℕ) → put c (a ++ b) ≡ put (put c a) b
+unfolding put nextPlace
+put-append c a b =
+    let e : nextPlace (c .buffer) (c .at) (a ++ b) ≡ nextPlace (sets (c .buffer) (c .at) a) (nextPlace (c .buffer) (c .at) a) b =
+    rw (length-sets, length-append) (omega arith) in
+    let f : sets (c .buffer) (c .at) (a ++ b) ≡ sets (sets (c .buffer) (c .at) a) (nextPlace (c .buffer) (c .at) a) b =
+    sets-append (c .buffer) (c .at) a b ∙ sym (rw length-sets at (by-room (sets (c .buffer) (c .at) a) (c .at) (c .at + length a) b (omega arith))) in
+    rw (e, f)
+
+pub put-nil : (b : List ℕ) (at : ℕ) → put (cursor b at) [] ≡ cursor b at
+unfolding put nextPlace
+put-nil b at = let e : max at (min (at + 0) (length b)) ≡ at = omega arith in rw e
+
+-- two calls, one after the other
+infixl 5 _then_
+pub _then_ : {b : List ℕ} {at : ℕ} {x b′ : List ℕ} {p : ℕ} {y b″ : List ℕ} {q : ℕ} → Wrote b at x b′ p → Wrote b′ p y b″ q → Wrote b at (x ++ y) b″ q
+_then_ {b} {at} {x} {y} v w = record { is = w .is ∙ rw (v .is, put-append) }
+
+-- where the piece fits: what stands before it, the piece, and what stands after it
+pub wrote-fits : {b : List ℕ} {at : ℕ} {t b′ : List ℕ} {p : ℕ} → Wrote b at t b′ p → at + length t ≤ length b
+    → (b′ ≡ take at b ++ t ++ drop (at + length t) b) × (p ≡ at + length t)
+unfolding put nextPlace
+wrote-fits {b} {at} {t} w h = (ap (λ (q : Cursor). q .buffer) (w .is) ∙ sets-eq t b at h, ap (λ (q : Cursor). q .at) (w .is) ∙ omega arith)
+
+-- the place handed back lies within the buffer
+pub wrote-within : {b : List ℕ} {at : ℕ} {t b′ : List ℕ} {p : ℕ} → Wrote b at t b′ p → at ≤ length b → p ≤ length b′
+unfolding put nextPlace
+wrote-within {b} {at} {t} {b′} {p} w h =
+    let e : p ≡ max at (min (at + length t) (length b)) = ap (λ (q : Cursor). q .at) (w .is) in
+    let l : length b′ ≡ length b = ap (λ (q : Cursor). length (q .buffer)) (w .is) ∙ length-sets b at t in
+    omega arith
