@@ -37,7 +37,10 @@ fn tell(label: &[u8], answer: Answer) {
 fn file(record: &[u8]) {
     let archive = archive_format::empty();
     let mut bigger = [0u8; 87];
-    tell(b"new length ", archive_add::add(&archive, record, b"Elm Street", &mut bigger));
+    tell(
+        b"new length ",
+        archive_add::add(&archive, record, b"Elm Street", &mut bigger),
+    );
     tell(b"place of record 1: ", archive_read::find(&bigger, 1));
     io::write_all(STDOUT_FILENO, archive_read::title(&bigger, 1));
     io::write_all(STDOUT_FILENO, b"\n");
@@ -46,7 +49,11 @@ fn file(record: &[u8]) {
 fn discharge_of(record: &[u8]) {
     let mut profile = [0u32; 720];
     match discharge::discharge(record, &mut profile) {
-        Discharged::Volumes { left: _, through, right: _ } => say(b"through discharges ", through as u64),
+        Discharged::Volumes {
+            left: _,
+            through,
+            right: _,
+        } => say(b"through discharges ", through as u64),
         Discharged::Refused(n) => say(b"refused ", n as u64),
     }
 }
