@@ -8,7 +8,7 @@ use mathlib.Core.List.{List, [], _∷_}
 use lib.Dec.{eqb}
 use lib.ListN.{length, getD, replicate, length-replicate}
 use borrow.Author.Tests.{eqb-false, ne-eqb}
-use Rattle.lists.specs.Lists.{sum}
+use Rattle.lists.specs.Lists.{sum, zeros-at}
 use Rattle.pair_parts.specs.PairParts.{partOf, restOf, parts, carryAfter, pairArrivals}
 
 pub rest-lt : (v w carry a : ℕ) → 0 < w → restOf v w carry a < w
@@ -73,14 +73,9 @@ pub pair-parts : (v w : ℕ) (l : List ℕ) → 0 < w → pairArrivals v w l ≡
 unfolding pairArrivals
 pair-parts v w l pos = rw (ne-eqb w 0 (λ e. (omega arith)))
 
-zero-at : (n i : ℕ) → _≡_ {A = ℕ} (getD (replicate n 0) i 0) 0
-zero-at zero i = refl
-zero-at (suc n) zero = refl
-zero-at (suc n) (suc i) = zero-at n i
-
 pub pair-none : (v : ℕ) (l : List ℕ) (i : ℕ) → getD (pairArrivals v 0 l) i 0 ≡ 0
 unfolding pairArrivals
-pair-none v l i = zero-at (length l) i
+pair-none v l i = zeros-at (length l) i
 
 pub pair-length : (v w : ℕ) (l : List ℕ) → length (pairArrivals v w l) ≡ length l
 unfolding pairArrivals
@@ -95,7 +90,7 @@ unfolding pairArrivals
 pair-le v w m l h hl i = go (eqb w 0) refl
   where
     go : (b : Bool) → eqb w 0 ≡ b → getD (cond b (replicate (length l) 0) (parts v w 0 l)) i 0 ≤ m
-    go true e = omega (arith, zero-at (length l) i)
+    go true e = omega (arith, zeros-at (length l) i)
     go false e = let ne = eqb-false w 0 e in parts-le v w 0 m l h (omega arith) hl i
 
 pub pair-shared : (v w : ℕ) (l : List ℕ) → 0 < w → Shared v w (sum l) (sum (pairArrivals v w l))

@@ -6,6 +6,7 @@ use native.Mathlib.Nat.{mul-le-mul, mul-le-mul-left, mul-le-mul-right, div-le-se
 use mathlib.Core.Path.{_≡_, refl, ap, sym, _∙_}
 use mathlib.Core.List.{List, [], _∷_}
 use lib.ListN.{length, set, getD, replicate, length-set}
+use Rattle.lists.specs.Lists.{zeros-at}
 use Rattle.signal.specs.declared.Green.{Green}
 use Rattle.signal.specs.Turn.{turn, turn-pos, turn-le}
 use Rattle.signal.specs.Greens.{Within, greenStep}
@@ -41,11 +42,6 @@ serving-start green q run =
       clear = record { same = λ m h r. refl };
       same = refl;
     }
-
-zeros : (n k : ℕ) → getD {A = ℕ} (replicate n 0) k 0 ≡ 0
-zeros zero k = refl
-zeros (suc n) zero = refl
-zeros (suc n) (suc k) = zeros n k
 
 module _ {green : Green} {q : Queue} {run₀ run : List ℕ} {waiting passed left k : ℕ} (r : Serving green q run₀ run waiting passed left k)
     (more : 0 < left) (within : Within (length run₀) green) where
@@ -84,7 +80,7 @@ module _ {green : Green} {q : Queue} {run₀ run : List ℕ} {waiting passed lef
   pub place-empty : run₀ ≡ replicate (length run₀) 0 → (at s : ℕ) → s ≡ greenStep (length run₀) green k → at ≡ s - 1 → getD run at 0 ≡ 0
   place-empty empty at s es e =
       rw (place at s es e) (r .clear .same k (omega arith) in-cycle ∙ ap (λ (l : List ℕ). getD l (turn (length run₀) (k + green .start .0) - 1) 0) empty
-      ∙ zeros (length run₀) (turn (length run₀) (k + green .start .0) - 1))
+      ∙ zeros-at (length run₀) (turn (length run₀) (k + green .start .0) - 1))
 
   pub serving-turn : (n reached : ℕ) → left ≡ suc n → reached ≡ k * q .arriving / green .steps →
       (d : Served) → d ≡ servedOf (waiting + (reached - passed)) (q .rate) →

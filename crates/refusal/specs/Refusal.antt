@@ -1,6 +1,7 @@
 -- An answer, or the paper's number of a refusal. Tests stand in the paper's order, so the lowest number wins.
 use Prim.Native.Nat.{ℕ}
-use mathlib.Core.Bool.{Bool, true, false}
+use native.Mathlib.Omega.{arith}
+use mathlib.Core.Bool.{Bool, true, false, _&&_}
 use mathlib.Core.Path.{_≡_, refl}
 
 pub data Or (A : Type 0) : Type 0 where
@@ -32,3 +33,8 @@ pub need-rest : {A : Type 0} (n : ℕ) (t : Bool) (x : Or A) (a : A) → need n 
 unfolding need
 need-rest n true x a e = e
 need-rest n false x a e = cc
+
+-- two tests in one
+pub both : (a b : Bool) → (a && b) ≡ true → (a ≡ true) × (b ≡ true)
+both true b e = (refl, e)
+both false b e = let z : _≡_ {A = ℕ} 0 1 = cc in absurd (omega arith)

@@ -8,7 +8,7 @@ use lib.Dec.{eqb, ltb}
 use lib.ListN.{length, set, getD, replicate, length-set, length-replicate, List·getD-eq-default}
 use lib.Seq.{getD-set-same, getD-set-other}
 use borrow.Author.Tests.{eqb-true, eqb-false, eq-eqb, ne-eqb, ltb-true, ltb-false}
-use Rattle.lists.specs.Lists.{sum, tab, tab-length, tab-at, tab-is, tab-same, tab-sum, tab-zero}
+use Rattle.lists.specs.Lists.{sum, zeros-at, tab, tab-length, tab-at, tab-is, tab-same, tab-sum, tab-zero}
 use Rattle.signal.specs.Turn.{turn, turn-pos, turn-le, turn-apart, earlier, earlier-pos, earlier-le, earlier-lands}
 
 -- what lands in step s of the numbers p from the ith on, each t steps after its own
@@ -64,14 +64,9 @@ added-tab c t r ps pos =
 pub added-landed : (c t : ℕ) (ps : List ℕ) → 0 < c → added c t 1 ps (replicate c 0) ≡ landed c t ps
 unfolding landed
 added-landed c t ps pos =
-    ap (added c t 1 ps) (tab-is (λ s. 0) 1 c (replicate c 0) (length-replicate c 0) (λ k hk. zeros c k))
+    ap (added c t 1 ps) (tab-is (λ s. 0) 1 c (replicate c 0) (length-replicate c 0) (λ k hk. zeros-at c k))
     ∙ added-tab c t (λ s. 0) ps pos
     ∙ tab-same (λ s. 0 + landing c t s 1 ps) (λ s. landing c t s 1 ps) 1 c (λ k hk. omega arith)
-  where
-    zeros : (n k : ℕ) → getD {A = ℕ} (replicate n 0) k 0 ≡ 0
-    zeros zero k = refl
-    zeros (suc n) zero = refl
-    zeros (suc n) (suc k) = zeros n k
 
 -- nothing lands in step s but the number of the one step that lands there
 module _ (c t s m : ℕ) (pm : 0 < m) (hm : m ≤ c) (lands : turn c (m + t) ≡ s) where

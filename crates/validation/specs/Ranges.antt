@@ -7,7 +7,7 @@ use lib.Dec.{leb, ltb, eqb}
 use lib.ListN.{length}
 use borrow.Author.Tests.{leb-true, ltb-true, eqb-true}
 use native.Mathlib.Omega.{arith}
-use Rattle.refusal.specs.Refusal.{Or, ok, need, need-passed, need-rest}
+use Rattle.refusal.specs.Refusal.{Or, ok, need, need-passed, need-rest, both}
 use Rattle.movements.specs.declared.Counts.{Counts}
 use Rattle.movements.specs.declared.Seeds.{Seeds}
 use Rattle.signal.specs.declared.Green.{Green}
@@ -37,10 +37,6 @@ pub record Ranges (s : Segment) : Type 0 where
   pub throughGreen : Within (s .cycle) (s .downstream .through)
   pub rightGreen : Within (s .cycle) (s .downstream .right)
   pub seeds : seedsAdd (s .seeds) ≡ true
-
-both : (a b : Bool) → (a && b) ≡ true → (a ≡ true) × (b ≡ true)
-both true b e = (refl, e)
-both false b e = let z : _≡_ {A = ℕ} 0 1 = cc in absurd (omega arith)
 
 within : (low n high : ℕ) → (leb low n && leb n high) ≡ true → (low ≤ n) × (n ≤ high)
 within low n high e = let b = both (leb low n) (leb n high) e in (leb-true low n (b .0), leb-true n high (b .1))

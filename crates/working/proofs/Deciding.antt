@@ -8,7 +8,7 @@ use lib.Dec.{leb, eqb}
 use lib.Ieee.{Float}
 use lib.ListN.{length, drop}
 use borrow.Author.Tests.{leb-true, eqb-true}
-use Rattle.refusal.specs.Refusal.{Or, refused, ok, pick}
+use Rattle.refusal.specs.Refusal.{Or, refused, ok, pick, both}
 use Rattle.segment.specs.declared.Segment.{Segment}
 use Rattle.segment.specs.Segment.{segmentOf}
 use Rattle.validation.specs.declared.Checked.{Checked}
@@ -78,10 +78,6 @@ module _ (s : Segment) (p : Profiles) where
   shares-worked z ex en ep er p′ ef ew = rw (ef, ew, er, ex, en, ep, z)
 
 -- ---- what the record decides
-
-both : (a b : Bool) → (a && b) ≡ true → (a ≡ true) × (b ≡ true)
-both true b e = (refl, e)
-both false b e = let z : _≡_ {A = ℕ} 0 1 = cc in absurd (omega arith)
 
 never : (b : Bool) (y x : Float) (n : ℕ) → _≡_ {A = Outcome} (pick b (Unsettled y) (Refused n)) (Worked x) → ⊥
 never true y x n e = let z : _≡_ {A = ℕ} 0 1 = cc in omega arith
