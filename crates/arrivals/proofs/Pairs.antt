@@ -7,11 +7,10 @@ use mathlib.Core.Path.{_≡_, refl, ap, sym, _∙_}
 use mathlib.Core.List.{List}
 use lib.ListN.{length, drop, set, getD, replicate, length-set, drop-of-length-le}
 use lib.Seq.{drop-cons, set-getD}
-use borrow.Author.Tests.{eq-eqb}
 use Rattle.signal.specs.Turn.{turn, turn-pos, turn-le}
 use Rattle.signal.specs.Landing.{added, Untouched, untouched-on}
 use Rattle.pair_parts.specs.PairParts.{partOf, restOf, parts, pairArrivals}
-use Rattle.pair_parts.specs.Laws.{part-le, rest-lt, pair-parts}
+use Rattle.pair_parts.specs.Laws.{part-le, rest-lt, pair-parts, pair-without}
 use Rattle.arrivals.specs.declared.Part.{Part}
 use Rattle.arrivals.specs.Arrivals.{PairRanges}
 
@@ -26,8 +25,8 @@ pub record Adding (arrived : List ℕ) (v w t : ℕ) (run₀ run : List ℕ) (ca
   pub clear : Untouched (length run₀) t (i + 1) run₀ run
   pub same : added (length run₀) t 1 (parts v w 0 arrived) run₀ ≡ added (length run₀) t (i + 1) (parts v w carry (drop i arrived)) run
 
-pub adding-start : (arrived : List ℕ) (v w t : ℕ) (run : List ℕ) → (w ≡ 0 → ⊥) → Adding arrived v w t run run 0 0
-adding-start arrived v w t run h =
+pub adding-start : (arrived : List ℕ) (v w t : ℕ) (run : List ℕ) → (v ≡ 0 → ⊥) → v ≤ w → Adding arrived v w t run run 0 0
+adding-start arrived v w t run h share =
     record { within = omega arith; carried = omega arith; long = refl; clear = record { same = λ m _ _. refl }; same = refl }
 
 module _ {arrived : List ℕ} {v w t : ℕ} {run₀ run : List ℕ} {carry i : ℕ} (r : Adding arrived v w t run₀ run carry i) (a : PairRanges v w t arrived run₀)
@@ -68,6 +67,5 @@ adding-zeros c t i (suc n) run =
     let e : set run at (getD run at 0 + 0) ≡ run = ap (set run at) z ∙ set-getD run at 0 in
     adding-zeros c t (suc i) n run ∙ ap (added c t (suc i) (replicate n 0)) (sym e)
 
-pub adding-none : (arrived : List ℕ) (v w t : ℕ) (run : List ℕ) → w ≡ 0 → run ≡ added (length run) t 1 (pairArrivals v w arrived) run
-unfolding pairArrivals
-adding-none arrived v w t run e = rw (eq-eqb w 0 e) (adding-zeros (length run) t 1 (length arrived) run)
+pub adding-none : (arrived : List ℕ) (v w t : ℕ) (run : List ℕ) → v ≡ 0 → run ≡ added (length run) t 1 (pairArrivals v w arrived) run
+adding-none arrived v w t run e = rw (e, pair-without w arrived) (adding-zeros (length run) t 1 (length arrived) run)

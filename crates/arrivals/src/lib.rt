@@ -40,7 +40,7 @@ pub fn add_pair(arrived: &[u32], v: u32, w: u32, t: u32, run: &mut [u32])
     requires { ⌜ PairRanges v w t (now arrived) (now run) ⌝ }
     ensures { λ _. ⌜ now (run .exit) ≡ added (length (now (run .entry))) t 1 (pairArrivals v w (now (arrived .entry))) (now (run .entry)) ⌝ }
 {
-    if w == 0 {
+    if v == 0 {
         return;
     }
     let c = run.len() as u32;

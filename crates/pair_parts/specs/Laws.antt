@@ -1,7 +1,7 @@
 -- Laws of a pair's parts: lengths, the carry around each, the largest, and what they add to.
 use Prim.Native.Nat.{ℕ, zero, suc, _+_, _*_, _/_, _≤_, _<_}
 use native.Mathlib.Omega.{arith}
-use native.Mathlib.Nat.{mod-lt, div-add-mod, div-lt-iff-lt-mul, div-eq-of-lt-le, mul-le-mul-left}
+use native.Mathlib.Nat.{mod-lt, div-add-mod, zero-div, zero-mod, div-lt-iff-lt-mul, div-eq-of-lt-le, mul-le-mul-left}
 use mathlib.Core.Bool.{Bool, true, false, cond}
 use mathlib.Core.Path.{_≡_, refl, ap, sym}
 use mathlib.Core.List.{List, [], _∷_}
@@ -76,6 +76,20 @@ pair-parts v w l pos = rw (ne-eqb w 0 (λ e. (omega arith)))
 pub pair-none : (v : ℕ) (l : List ℕ) (i : ℕ) → getD (pairArrivals v 0 l) i 0 ≡ 0
 unfolding pairArrivals
 pair-none v l i = zeros-at (length l) i
+
+-- a pair without a share gets 0 in every step
+no-parts : (w : ℕ) (l : List ℕ) → parts 0 w 0 l ≡ replicate (length l) 0
+unfolding parts
+no-parts w [] = refl
+no-parts w (a ∷ l) = let z : a * 0 + 0 ≡ 0 = omega arith in rw (z, zero-div w, zero-mod w, no-parts w l)
+
+pub pair-without : (w : ℕ) (l : List ℕ) → pairArrivals 0 w l ≡ replicate (length l) 0
+unfolding pairArrivals
+pair-without w l = go (eqb w 0)
+  where
+    go : (b : Bool) → cond b (replicate (length l) 0) (parts 0 w 0 l) ≡ replicate (length l) 0
+    go true = refl
+    go false = no-parts w l
 
 pub pair-length : (v w : ℕ) (l : List ℕ) → length (pairArrivals v w l) ≡ length l
 unfolding pairArrivals

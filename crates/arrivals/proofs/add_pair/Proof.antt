@@ -18,7 +18,7 @@ cast-c : tie.Need-cast-c Inv-loop μ-loop
 cast-c c = omega (arith, c .before .before .before .pre .cycle)
 
 loop-holds : tie.Need-loop-holds Inv-loop μ-loop
-loop-holds c = adding-start _ _ _ _ _ (c .if1 .left)
+loop-holds c = adding-start _ _ _ _ _ (c .if1 .left) (c .before .before .before .pre .share)
 
 mul-part-of : tie.Need-mul-part-of Inv-loop μ-loop
 mul-part-of c = omega arith
