@@ -10,7 +10,6 @@ use Rattle.flows.specs.declared.FlowTable.{FlowTable}
 use Rattle.flows.specs.Flows.{zero64, times, flowsOf, noFlows, noTable, tableFinite}
 use Rattle.balance_round.specs.declared.Round.{Round}
 use Rattle.balance_round.specs.Round.{roundOf, stops}
-use Rattle.balance.specs.declared.Settling.{Settling}
 use Rattle.balance.specs.declared.Settling.the-variants.{Settled, Unsettled}
 use Rattle.balance.specs.declared.Balance.{Balance}
 use Rattle.volumes.specs.Volumes.{dischargeFloats, exitFloats, proportions, destinationVolumes}

@@ -1,7 +1,7 @@
 -- Demand 3 holds of every filling: its parts are the laws of exact and pair_parts, at the definitions of the working.
 use Prim.Native.Nat.{ℕ, suc, _+_, _-_, _*_, _≤_, _<_}
 use native.Mathlib.Omega.{arith}
-use mathlib.Core.Path.{_≡_, refl, ap, sym, _∙_}
+use mathlib.Core.Path.{_≡_, _∙_}
 use mathlib.Core.List.{List}
 use lib.ListN.{length, drop, getD}
 use Rattle.movements.specs.Movements.{flowUnits}
@@ -12,7 +12,7 @@ use Rattle.segment.specs.declared.Segment.{Segment}
 use Rattle.metering.specs.Metering.{discharged}
 use Rattle.entries.specs.Entries.{entryProfile}
 use Rattle.entries.specs.Laws.{entry-length}
-use Rattle.dispersion.specs.Dispersion.{arrivalTimeOf, reported}
+use Rattle.dispersion.specs.Dispersion.{arrivalTimeOf}
 use Rattle.dispersion.specs.Cycles.{reported-length}
 use Rattle.pair_parts.specs.Laws.{pair-length, pair-shared}
 use Rattle.exact.specs.Fraction.{Within}

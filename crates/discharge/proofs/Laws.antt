@@ -1,25 +1,24 @@
 -- What the discharge call answers and writes, over plain variables.
-use Prim.Native.Nat.{ℕ, _+_, _-_, _*_, _≤_, _<_}
+use Prim.Native.Nat.{ℕ, _+_, _-_, _*_, _≤_}
 use native.Mathlib.Omega.{arith}
 use native.Mathlib.Nat.{sub-zero}
-use mathlib.Core.Path.{_≡_, refl, ap, sym, _∙_}
-use mathlib.Core.List.{List, [], _∷_, _++_, append-assoc}
+use mathlib.Core.Path.{_≡_, ap, _∙_}
+use mathlib.Core.List.{List, _++_, append-assoc}
 use lib.Dec.{leb}
 use lib.ListN.{length, take, drop, length-append}
 use lib.Seq.{take-at, drop-at, drop-drop}
 use borrow.Author.Tests.{leb-true}
 use Rattle.refusal.specs.Refusal.{ok}
 use Rattle.segment.specs.declared.Segment.{Segment}
-use Rattle.validation.specs.declared.Checked.{Checked}
 use Rattle.validation.specs.declared.Checked.the-variants.{Refused, Valid}
 use Rattle.validation.specs.Validation.{checkedOf}
 use Rattle.validation.specs.Accepting.{checked-refused, checked-valid, accept-passed}
-use Rattle.validation.specs.Ranges.{Ranges, Accepted}
+use Rattle.validation.specs.Ranges.{Ranges}
 use Rattle.discharge.specs.declared.Discharged.{Discharged}
 use Rattle.discharge.specs.declared.Discharged.the-variants as d
 use Rattle.entries.specs.Entries.{entryProfile}
 use Rattle.entries.specs.Laws.{entry-length}
-use Rattle.discharge.specs.Discharge.{acceptOf, answerOf, written, profileAfter, Calls}
+use Rattle.discharge.specs.Discharge.{acceptOf, answerOf, written, Calls}
 
 -- three runs lent one after the other
 module _ (c : ℕ) (p y1 y2 y3 : List ℕ) (l1 : length y1 ≡ c) (l2 : length y2 ≡ c) where

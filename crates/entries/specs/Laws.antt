@@ -2,10 +2,8 @@
 use Prim.Native.Nat.{ℕ, _≤_}
 use native.Mathlib.Omega.{arith}
 use mathlib.Core.Path.{_≡_}
-use mathlib.Core.List.{List}
 use lib.ListN.{length, getD}
 use Rattle.lists.specs.Lists.{sum, tab-length}
-use Rattle.movements.specs.Movements.{flowUnits}
 use Rattle.signal.specs.Landing.{landed}
 use Rattle.segment.specs.declared.Entry.{Entry}
 use Rattle.validation.specs.Ranges.{EntryRanges}

@@ -2,7 +2,7 @@
 use Prim.Native.Nat.{ℕ}
 use mathlib.Core.Path.{_≡_, refl}
 use mathlib.Core.List.{List, [], _∷_, _++_}
-use lib.ListN.{length, take, drop, replicate}
+use lib.ListN.{take, drop, replicate}
 use Rattle.refusal.specs.Refusal.{Or, refused, ok, need}
 use Rattle.octets.specs.Octets.{word2, word4}
 use Rattle.lists.specs.Lists.{tab}

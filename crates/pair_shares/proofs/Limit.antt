@@ -1,13 +1,13 @@
 -- Laws of `limited`: where x is in the range of the cast it is the cast's result, capped; above it the cap; below it 0.
 -- Assumes nothing.
 use Prim.Native.Nat.{ℕ, _+_, _*_, _/_, _-_, _^_, min, _≤_, _<_}
-use mathlib.Core.Path.{_≡_, refl, sym, _∙_, ap}
-use mathlib.Core.Bool.{Bool, true, false, true≢false, false≢true}
+use mathlib.Core.Path.{_≡_, refl, sym}
+use mathlib.Core.Bool.{true, false, true≢false, false≢true}
 use native.Mathlib.Nat.{le-div-iff-mul-le}
 use native.Mathlib.Omega.{arith}
-use lib.IntN.{ℤ, pos, negsuc}
+use lib.IntN.{pos}
 use lib.Ieee.{Float, nan, inf, fin, up, down, lt, toUnsigned}
-use lib.Ieee.Fits.{up-pos, down-pos}
+use lib.Ieee.Fits.{down-pos}
 use borrow.Author.Tests.{ltb-false}
 use Rattle.pair_shares.specs.Shares.{limited}
 

@@ -1,19 +1,19 @@
 -- The loop that serves a queue over the steps of a green.
-use Prim.Native.Nat.{ℕ, zero, suc, _+_, _-_, _*_, _/_, _^_, min, _≤_, _<_}
+use Prim.Native.Nat.{ℕ, suc, _+_, _-_, _*_, _/_, _≤_, _<_}
 use native.Mathlib.Omega.{arith}
 use native.Mathlib.Numerals.{add-one}
-use native.Mathlib.Nat.{mul-le-mul, mul-le-mul-left, mul-le-mul-right, div-le-self, zero-div}
+use native.Mathlib.Nat.{mul-le-mul, div-le-self, zero-div}
 use mathlib.Core.Path.{_≡_, refl, ap, sym, _∙_}
-use mathlib.Core.List.{List, [], _∷_}
+use mathlib.Core.List.{List}
 use lib.ListN.{length, set, getD, replicate, length-set}
 use Rattle.lists.specs.Lists.{zeros-at}
 use Rattle.signal.specs.declared.Green.{Green}
 use Rattle.signal.specs.Turn.{turn, turn-pos, turn-le}
 use Rattle.signal.specs.Greens.{Within, greenStep}
-use Rattle.signal.specs.Landing.{added, added-landed, Untouched, untouched-on, landed}
+use Rattle.signal.specs.Landing.{added, added-landed, Untouched, untouched-on}
 use Rattle.platoon.specs.declared.Queue.{Queue}
 use Rattle.platoon.specs.declared.Served.{Served}
-use Rattle.platoon.specs.Discharge.{carried, onGreen, received, servedOf, served, queueOf, greenFlows, profileOf}
+use Rattle.platoon.specs.Discharge.{carried, received, servedOf, served, queueOf, greenFlows, profileOf}
 use Rattle.platoon.specs.Conserved.{more-arrived, on-green-le}
 
 pub small-product : (a b m n : ℕ) → a ≤ m → b ≤ n → a * b ≤ m * n

@@ -1,13 +1,9 @@
 -- A cycle discharges what it carries.
-use Prim.Native.Nat.{ℕ, zero, suc, _+_, _-_, _*_, _/_, _%_, min, _≤_, _<_}
+use Prim.Native.Nat.{ℕ, zero, suc, _+_, _-_, _*_, _/_, min, _≤_, _<_}
 use native.Mathlib.Omega.{arith}
 use native.Mathlib.Nat.{div-add-mod, mod-lt, mul-le-mul-left, mul-le-mul-right, lt-of-mul-lt-mul-left, div-mul-le-self, le-div-iff-mul-le, mul-div-cancel-left, zero-div, div-le-of-le-mul}
-use mathlib.Core.Bool.{Bool, true, false}
-use mathlib.Core.Path.{_≡_, refl, ap, sym, _∙_}
-use mathlib.Core.List.{List, [], _∷_}
-use lib.Dec.{leb, eqb}
+use mathlib.Core.Path.{_≡_, refl, ap, _∙_}
 use lib.ListN.{length, getD}
-use borrow.Author.Tests.{leb-true, leb-false, eqb-true, eqb-false}
 use Rattle.lists.specs.Lists.{sum}
 use Rattle.movements.specs.Movements.{flowUnits}
 use Rattle.signal.specs.declared.Green.{Green}

@@ -1,12 +1,11 @@
 -- The profiles as the entries are worked: the output's runs as a function of exit and step.
 use Prim.Native.Nat.{ℕ, _+_, _-_, _*_, _≤_, _<_}
 use native.Mathlib.Omega.{arith}
-use mathlib.Core.Path.{_≡_, refl, ap, sym, _∙_}
-use mathlib.Core.List.{List, [], _∷_, _++_}
+use mathlib.Core.Path.{_≡_, refl, ap, _∙_}
+use mathlib.Core.List.{List, []}
 use lib.ListN.{length, drop, getD}
 use lib.Seq.{drop-at}
 use Rattle.movements.specs.Movements.{flowUnits}
-use Rattle.signal.specs.Landing.{landing}
 use Rattle.segment.specs.declared.Entry.{Entry}
 use Rattle.segment.specs.declared.Segment.{Segment}
 use Rattle.validation.specs.Ranges.{Ranges}
@@ -16,8 +15,7 @@ use Rattle.entries.specs.Entries.{entryProfile}
 use Rattle.entries.specs.Laws.{entry-length, entry-le}
 use Rattle.dispersion.specs.Dispersion.{arrivalTimeOf, reported}
 use Rattle.dispersion.specs.Cycles.{reported-length, reported-le}
-use Rattle.pair_parts.specs.PairParts.{pairArrivals}
-use Rattle.arrivals.specs.Arrivals.{begun, entryAdded}
+use Rattle.arrivals.specs.Arrivals.{begun}
 use Rattle.arrivals.specs.Laws.{fourRuns, runs-le, begun-runs, added-runs, lands-le}
 use Rattle.propagation.specs.Propagation.{Profiles, profiles, cycles, pairFlow, entryArrivals, pairOf, landsIn, flowAt, filledOf}
 use Rattle.propagation.specs.Steps.{spreadStep, EntryAsks, entryStep, Room, RowsFit, FillAsks}

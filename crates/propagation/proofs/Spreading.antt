@@ -1,17 +1,17 @@
 -- One entry: what its dispersion and its arrivals ask, and what they leave, over plain variables.
-use Prim.Native.Nat.{ℕ, _+_, _-_, _*_, _/_, _≤_, _<_}
+use Prim.Native.Nat.{ℕ, _+_, _-_, _≤_, _<_}
 use native.Mathlib.Omega.{arith}
 use native.Mathlib.Nat.{sub-zero}
-use mathlib.Core.Path.{_≡_, refl, ap, sym, _∙_}
-use mathlib.Core.List.{List, [], _∷_, _++_}
-use lib.ListN.{length, take, drop, getD, replicate, length-replicate, length-append}
+use mathlib.Core.Path.{_≡_, ap, _∙_}
+use mathlib.Core.List.{List, _++_}
+use lib.ListN.{length, take, drop, length-append}
 use lib.Seq.{take-at}
 use Rattle.movements.specs.Movements.{flowUnits}
 use Rattle.segment.specs.declared.Entry.{Entry}
 use Rattle.validation.specs.Ranges as validation
 use Rattle.metering.specs.Metering.{discharged}
 use Rattle.entries.specs.Entries.{entryProfile}
-use Rattle.entries.specs.Laws.{entry-length, entry-le, discharged-le}
+use Rattle.entries.specs.Laws.{entry-length, entry-le}
 use Rattle.dispersion.specs.declared.PlatoonState.{PlatoonState}
 use Rattle.dispersion.specs.Dispersion.{Work, work, arrivalTimeOf, reported, cyclesWorked, lastPart}
 use Rattle.dispersion.specs.Arrivals.{arrival-time-nearest}
@@ -19,7 +19,7 @@ use Rattle.dispersion.specs.Cycles.{last-part, two-left, reported-length, repor
 use Rattle.arrivals.specs.Arrivals.{entryAdded}
 use Rattle.arrivals.specs.Arrivals as arrivals
 use Rattle.propagation.specs.Propagation.{Profiles, profiles, cycles}
-use Rattle.propagation.specs.Steps.{SpreadAsks, spreadStep, EntryAsks, entryStep, Room}
+use Rattle.propagation.specs.Steps.{SpreadAsks, spreadStep, EntryAsks, entryStep}
 
 -- the platoon arrival time is small
 pub time-small : (running : ℕ) → running ≤ 300000 → arrivalTimeOf running < 1000

@@ -1,8 +1,8 @@
 -- The segment record (the paper's card): 68 bytes, lowest byte first, each place named once.
 use Prim.Native.Nat.{ℕ, _+_}
-use mathlib.Core.List.{List, [], _∷_}
+use mathlib.Core.List.{List}
 use lib.ListN.{getD}
-use Rattle.octets.specs.Octets.{word2, word4}
+use Rattle.octets.specs.Octets.{word2}
 use Rattle.movements.specs.declared.Counts.{Counts}
 use Rattle.movements.specs.declared.Seeds.{Seeds}
 use Rattle.signal.specs.declared.Green.{Green}

@@ -14,7 +14,6 @@ use Rattle.pair_flows.specs.declared.PairFlows.{PairFlows}
 use Rattle.pair_flows.specs.Pairs.{pairFlows}
 use Rattle.pair_shares.specs.Shares.{pairRows}
 use Rattle.served.specs.Served.{noVolume, anyUnservedEntry, anyUnservedExit}
-use Rattle.shares.specs.declared.Sharing.{Sharing}
 use Rattle.shares.specs.declared.Verdict.the-variants as verdict
 use Rattle.shares.specs.Sharing.{told, refusal, settledTo, sharing}
 

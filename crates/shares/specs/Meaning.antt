@@ -2,12 +2,12 @@
 -- Assumes nothing.
 use Prim.Native.Nat.{ℕ}
 use mathlib.Core.Bool.{Bool, true, false, not, cond, _||_}
-use mathlib.Core.List.{List, [], _∷_, map}
+use mathlib.Core.List.{[], _∷_, map}
 use mathlib.Core.Path.{_≡_, refl, sym, _∙_}
 use native.Mathlib.Omega.{arith}
 use lib.Dec.{eqb}
 use lib.Ieee.{Float}
-use Rattle.refusal.specs.Refusal.{Or, ok, need}
+use Rattle.refusal.specs.Refusal.{ok, need}
 use Rattle.movements.specs.declared.Counts.{Counts}
 use Rattle.movements.specs.declared.Seeds.{Seeds}
 use Rattle.flows.specs.declared.FlowTable.{FlowTable}

@@ -1,5 +1,5 @@
 -- The turn of the cycle: numbers counted on past the end of a cycle of c steps, and the steps that they are.
-use Prim.Native.Nat.{ℕ, suc, _+_, _-_, _*_, _/_, _%_, _≤_, _<_}
+use Prim.Native.Nat.{ℕ, _+_, _-_, _*_, _/_, _%_, _≤_, _<_}
 use native.Mathlib.Omega.{arith}
 use native.Mathlib.Nat.{mod-lt, div-add-mod, mod-add-mod, add-mul-mod-self-left, mod-eq-of-lt, mul-le-mul-left}
 use mathlib.Core.Bool.{Bool, true, false}

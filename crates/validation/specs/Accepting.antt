@@ -2,11 +2,10 @@
 use Prim.Native.Nat.{ℕ}
 use native.Mathlib.Omega.{arith}
 use mathlib.Core.Bool.{Bool, true, false}
-use mathlib.Core.Path.{_≡_, refl, ap, sym, _∙_}
+use mathlib.Core.Path.{_≡_, refl, ap, _∙_}
 use mathlib.Core.List.{List}
 use Rattle.refusal.specs.Refusal.{Or, refused, ok, need, need-passed, need-rest, andThen}
 use Rattle.segment.specs.declared.Segment.{Segment}
-use Rattle.validation.specs.declared.Checked.{Checked}
 use Rattle.validation.specs.declared.Checked.the-variants.{Refused, Valid}
 use Rattle.validation.specs.Validation.{checkOf, checkedOf}
 use Rattle.validation.specs.Ranges.{Accepted, accepted}

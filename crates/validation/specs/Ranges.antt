@@ -1,22 +1,20 @@
 -- What the tests of a record say of its fields, as facts.
-use Prim.Native.Nat.{ℕ, _+_, _≤_, _<_}
-use mathlib.Core.Bool.{Bool, true, false, _&&_}
-use mathlib.Core.Path.{_≡_, refl}
+use Prim.Native.Nat.{ℕ, _≤_}
+use mathlib.Core.Bool.{true, _&&_}
+use mathlib.Core.Path.{_≡_}
 use mathlib.Core.List.{List}
-use lib.Dec.{leb, ltb, eqb}
+use lib.Dec.{leb, ltb}
 use lib.ListN.{length}
 use borrow.Author.Tests.{leb-true, ltb-true, eqb-true}
-use native.Mathlib.Omega.{arith}
-use Rattle.refusal.specs.Refusal.{Or, ok, need, need-passed, need-rest, both}
+use Rattle.refusal.specs.Refusal.{ok, need-passed, need-rest, both}
 use Rattle.movements.specs.declared.Counts.{Counts}
-use Rattle.movements.specs.declared.Seeds.{Seeds}
 use Rattle.signal.specs.declared.Green.{Green}
 use Rattle.signal.specs.Greens.{Within}
 use Rattle.segment.specs.declared.Entry.{Entry}
 use Rattle.segment.specs.declared.Segment.{Segment}
 use Rattle.segment.specs.Layout.{size}
 use Rattle.segment.specs.Segment.{segmentOf}
-use Rattle.validation.specs.Validation.{cycleFits, runningFits, headwayFits, entryFits, exitsFit, volumesFit, greenFits, greensFit, rowAdds, seedsAdd, checkOf}
+use Rattle.validation.specs.Validation.{cycleFits, runningFits, headwayFits, entryFits, exitsFit, volumesFit, greenFits, greensFit, seedsAdd, checkOf}
 
 pub record EntryRanges (c : ℕ) (e : Entry) : Type 0 where
   pub volume : e .volume ≤ 6000

@@ -1,5 +1,5 @@
 -- The ways of the call, over plain variables; and demand 3 of every one that works.
-use Prim.Native.Nat.{ℕ, _+_, _*_, _≤_, _<_}
+use Prim.Native.Nat.{ℕ, _*_}
 use native.Mathlib.Omega.{arith}
 use mathlib.Core.Bool.{Bool, true, false, _&&_}
 use mathlib.Core.Path.{_≡_, refl, ap, sym, subst, _∙_}
@@ -8,29 +8,26 @@ use lib.Dec.{leb, eqb}
 use lib.Ieee.{Float}
 use lib.ListN.{length, drop}
 use borrow.Author.Tests.{leb-true, eqb-true}
-use Rattle.refusal.specs.Refusal.{Or, refused, ok, pick, both}
+use Rattle.refusal.specs.Refusal.{Or, ok, pick, both}
 use Rattle.segment.specs.declared.Segment.{Segment}
 use Rattle.segment.specs.Segment.{segmentOf}
-use Rattle.validation.specs.declared.Checked.{Checked}
 use Rattle.validation.specs.declared.Checked.the-variants as checked
 use Rattle.validation.specs.Validation.{checkedOf}
-use Rattle.validation.specs.Accepting.{acceptWith, checked-refused, checked-valid, accept-passed}
+use Rattle.validation.specs.Accepting.{checked-refused, checked-valid, accept-passed}
 use Rattle.validation.specs.Ranges.{Ranges, Accepted}
-use Rattle.arrivals.specs.Laws.{fourRuns}
-use Rattle.pair_flows.specs.declared.PairFlows.{PairFlows}
 use Rattle.movements.specs.declared.Counts.{Counts}
 use Rattle.metering.specs.Metering.{dischargesOf}
 use Rattle.shares.specs.declared.Verdict.{Verdict}
 use Rattle.shares.specs.declared.Sharing.{Sharing}
 use Rattle.shares.specs.Sharing.{Told, told, numberOf, lastSumOf, sharing}
-use Rattle.propagation.specs.Propagation.{Profiles, profiles, flowAt, filledOf}
-use Rattle.propagation.specs.Steps.{Room, RowsFit, FillAsks}
+use Rattle.propagation.specs.Propagation.{Profiles, filledOf}
+use Rattle.propagation.specs.Steps.{Room, FillAsks}
 use Rattle.demand3.specs.Demand3.{Demand3}
 use Rattle.demand3.specs.Holds.{demand-3}
 use Rattle.working.specs.declared.Outcome.{Outcome}
 use Rattle.working.specs.declared.Outcome.the-variants.{Worked, Refused, Unsettled}
 use Rattle.working.specs.declared.Working.{Working}
-use Rattle.working.specs.Working.{acceptOf, sharingOf, refusedWith, workedOf, Called, called, bySharing, byRecord, callOf, Works}
+use Rattle.working.specs.Working.{acceptOf, sharingOf, refusedWith, workedOf, Called, called, bySharing, callOf, Works}
 use Rattle.working.specs.Filled.{Filled}
 use Rattle.working.proofs.Rows.{rows-fit}
 

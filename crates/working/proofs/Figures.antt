@@ -1,20 +1,19 @@
 -- The figures of a filled output, run by run.
-use Prim.Native.Nat.{ℕ, _+_, _-_, _*_, _≤_, _<_}
+use Prim.Native.Nat.{ℕ, _-_, _*_, _≤_, _<_}
 use native.Mathlib.Omega.{arith}
-use mathlib.Core.Path.{_≡_, refl, ap, sym, _∙_}
+use mathlib.Core.Path.{_≡_}
 use mathlib.Core.List.{List}
 use lib.Ieee.{Float}
 use lib.ListN.{length, take, drop}
-use Rattle.lists.specs.Lists.{sum, tab, tab-length}
+use Rattle.lists.specs.Lists.{sum, tab-length}
 use Rattle.signal.specs.declared.Green.{Green}
 use Rattle.signal.specs.Greens.{Within}
 use Rattle.segment.specs.declared.Segment.{Segment}
 use Rattle.dispersion.specs.Dispersion.{arrivalTimeOf}
-use Rattle.arrivals.specs.Laws.{fourRuns, run-of, runs-length}
+use Rattle.arrivals.specs.Laws.{run-of, runs-length}
 use Rattle.exit_figures.specs.declared.ExitFigures.{ExitFigures}
 use Rattle.exit_figures.specs.ExitFigures.{figuresOf, blockedSteps}
 use Rattle.pair_flows.specs.declared.PairFlows.{PairFlows}
-use Rattle.shares.specs.Sharing.{Told}
 use Rattle.propagation.specs.Propagation.{flowAt}
 use Rattle.working.specs.declared.Outcome.the-variants.{Worked}
 use Rattle.working.specs.declared.Working.{Working}

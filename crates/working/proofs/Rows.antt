@@ -1,8 +1,8 @@
 -- The pair flows of an accepted working fit their entries, and the discharge volumes their limit.
-use Prim.Native.Nat.{ℕ, zero, suc, _+_, _≤_, _<_}
+use Prim.Native.Nat.{ℕ, zero, suc, _≤_, _<_}
 use native.Mathlib.Omega.{arith}
 use mathlib.Core.Bool.{Bool, true, false, not, _||_}
-use mathlib.Core.Path.{_≡_, refl, ap, sym, _∙_}
+use mathlib.Core.Path.{_≡_, refl}
 use mathlib.Core.List.{List, [], _∷_}
 use lib.ListN.{length, getD}
 use Rattle.refusal.specs.Refusal.{ok, need}
@@ -20,8 +20,7 @@ use Rattle.balance.specs.declared.Balance.{Balance}
 use Rattle.balance.specs.Settling.{balanced}
 use Rattle.served.specs.Served.{noVolume, anyUnservedEntry, anyUnservedExit}
 use Rattle.pair_shares.specs.Shares.{WithinLimit, pairRow, pairRows, rowSum, row-adds}
-use Rattle.shares.specs.Sharing.{Told, bySettling, settledTo, answer, sharing}
-use Rattle.propagation.specs.Propagation.{pairFlow}
+use Rattle.shares.specs.Sharing.{bySettling, settledTo, answer, sharing}
 use Rattle.propagation.specs.Steps.{RowsFit}
 use Rattle.working.specs.Working.{sharingOf}
 

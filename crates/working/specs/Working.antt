@@ -1,8 +1,8 @@
 -- The working of a segment record over three lent profiles: what it answers and leaves in them, on every way.
 use Prim.Native.Nat.{ℕ, _*_}
-use mathlib.Core.Bool.{Bool, _&&_}
+use mathlib.Core.Bool.{_&&_}
 use mathlib.Core.Path.{_≡_}
-use mathlib.Core.List.{List, [], _∷_}
+use mathlib.Core.List.{List}
 use lib.Dec.{leb, eqb}
 use lib.Ieee.{Float}
 use lib.ListN.{length}
@@ -15,7 +15,6 @@ use Rattle.metering.specs.Metering.{dischargesOf}
 use Rattle.dispersion.specs.Dispersion.{arrivalTimeOf}
 use Rattle.exit_figures.specs.declared.ExitFigures.{ExitFigures}
 use Rattle.exit_figures.specs.ExitFigures.{figuresOf, blockedSteps}
-use Rattle.pair_flows.specs.declared.PairFlows.{PairFlows}
 use Rattle.pair_shares.specs.Shares.{noPairs}
 use Rattle.shares.specs.Sharing.{Told, sharing}
 use Rattle.propagation.specs.Propagation.{Profiles, flowAt, filledOf}

@@ -1,5 +1,5 @@
 use Prim.Native.Nat.{_-_, _≤_}
-use mathlib.Core.Path.{_≡_, refl, sym, _∙_}
+use mathlib.Core.Path.{_≡_, sym, _∙_}
 use native.Mathlib.Omega.{arith}
 use Rattle.balance.specs.Settling.{roundLimit, Running, rounds, report, settle}
 use Rattle.balance.proofs.Rounds.{spent, stopped, closes, goes}

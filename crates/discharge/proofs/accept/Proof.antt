@@ -1,5 +1,4 @@
 use mathlib.Core.Path.{_∙_, sym}
-use native.Mathlib.Omega.{arith}
 use borrow.Author.Tests.{le-leb, lt-leb}
 use Rattle.validation.specs.Accepting.{accept-refused, accept-short, accept-valid}
 use borrow.Author.Needs.{needs}

@@ -1,4 +1,3 @@
-use mathlib.Core.Path.{_∙_, sym}
 use Rattle.discharge.proofs.Laws.{all-written}
 use borrow.Author.Needs.{needs}
 use Rattle.discharge.proofs.write.Statement.{statement}

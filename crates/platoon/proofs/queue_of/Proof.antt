@@ -1,5 +1,4 @@
 use native.Mathlib.Omega.{arith}
-use native.Mathlib.Nat.{mul-le-mul-left}
 use Prim.Native.Nat.{_*_}
 use mathlib.Core.Path.{refl}
 use Rattle.platoon.specs.Discharge.{queueOf, carried, onGreen}

@@ -1,5 +1,4 @@
 use native.Mathlib.Omega.{arith}
-use borrow.Author.Needs.{needs}
 use Rattle.platoon.proofs.Serving.{Serving, serving-start, reaches, reached-small, place-pos, place-lt, place-empty, serving-turn, serving-done}
 use Rattle.platoon.proofs.release.Statement.{statement}
 use Rattle.platoon.proofs.release.Tie as tie

@@ -1,4 +1,3 @@
-use native.Mathlib.Omega.{arith}
 use Rattle.propagation.proofs.Spreading.{spread-adds, spread-done}
 use borrow.Author.Needs.{needs}
 use Rattle.propagation.proofs.spread.Statement.{statement}

@@ -1,6 +1,5 @@
 use Rattle.propagation.specs.Propagation.{profiles}
-use native.Mathlib.Omega.{arith}
-use mathlib.Core.Path.{refl, sym, _∙_}
+use mathlib.Core.Path.{refl, _∙_}
 use Rattle.working.proofs.Rows.{limits}
 use Rattle.working.proofs.Deciding.{told-number, told-sum, told-rounds, told-pairs, shares-refused, shares-unsettled, fill-asks, filled, shares-worked}
 use borrow.Author.Needs.{needs}
