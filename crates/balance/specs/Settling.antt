@@ -1,6 +1,7 @@
 -- The settling and its cells: items 4 and 5 of "Metering and shares".
 use Prim.Native.Nat.{ℕ, zero, suc, _+_}
-use mathlib.Core.Bool.{Bool, true, false}
+use mathlib.Core.Bool.{Bool, true, false, cond}
+use lib.Dec.{eqb}
 use mathlib.Core.Path.{_≡_, refl}
 use lib.Ieee.{Float, binary64, ofBits, round, lt}
 use Rattle.movements.specs.declared.Counts.{Counts}
@@ -10,6 +11,7 @@ use Rattle.flows.specs.declared.FlowTable.{FlowTable}
 use Rattle.flows.specs.Flows.{zero64, times, flowsOf, noFlows, noTable, tableFinite}
 use Rattle.balance_round.specs.declared.Round.{Round}
 use Rattle.balance_round.specs.Round.{roundOf, stops}
+use Rattle.balance.specs.declared.Settling.{Settling}
 use Rattle.balance.specs.declared.Settling.the-variants.{Settled, Unsettled}
 use Rattle.balance.specs.declared.Balance.{Balance}
 use Rattle.volumes.specs.Volumes.{dischargeFloats, exitFloats, proportions, destinationVolumes}
@@ -44,12 +46,28 @@ cellsOf origins b p =
       access = cellRow (origins .access) b (p .access);
     }
 
--- unsettled with the last sum reached; no cells
+-- the outcome's cases: the paper's number, 0 where settled, and the last sum of differences reached
+abbrev pub settlingOf : (number : ℕ) → (sum : Float) → Settling
+settlingOf number sum = cond (eqb number 0) (Settled sum) (Unsettled sum)
+
+abbrev pub numberOf : Settling → ℕ
+numberOf (Settled sum) = 0
+numberOf (Unsettled sum) = 15
+
+abbrev pub lastSumOf : Settling → Float
+lastSumOf (Settled sum) = sum
+lastSumOf (Unsettled sum) = sum
+
+pub settling-whole : (k : Settling) → settlingOf (numberOf k) (lastSumOf k) ≡ k
+settling-whole (Settled sum) = refl
+settling-whole (Unsettled sum) = refl
+
+-- unsettled, 15, with the last sum reached; no cells
 abbrev pub unsettled : Float → ℕ → Balance
-unsettled sum n = record { settling = Unsettled sum; rounds = n; cells = noTable }
+unsettled sum n = record { settling = settlingOf 15 sum; rounds = n; cells = noTable }
 
 abbrev pub byCells : Bool → FlowTable → Float → ℕ → Balance
-byCells true c sum n = record { settling = Settled sum; rounds = n; cells = c }
+byCells true c sum n = record { settling = settlingOf 0 sum; rounds = n; cells = c }
 byCells false c sum n = unsettled sum n
 
 -- the round that settles is the nth: a cell not finite counts as unsettled, with this round's sum

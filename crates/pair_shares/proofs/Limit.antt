@@ -3,16 +3,13 @@
 use Prim.Native.Nat.{ℕ, _+_, _*_, _/_, _-_, _^_, min, _≤_, _<_}
 use mathlib.Core.Path.{_≡_, refl, sym}
 use mathlib.Core.Bool.{true, false, true≢false, false≢true}
-use native.Mathlib.Nat.{le-div-iff-mul-le}
+use native.Mathlib.Nat.{le-div-iff-mul-le, zero-min}
 use native.Mathlib.Omega.{arith}
 use lib.IntN.{pos}
 use lib.Ieee.{Float, nan, inf, fin, up, down, lt, toUnsigned}
 use lib.Ieee.Fits.{down-pos}
 use borrow.Author.Tests.{ltb-false}
 use Rattle.pair_shares.specs.Shares.{limited}
-
-zero-min : (n : ℕ) → min 0 n ≡ 0
-zero-min n = omega arith
 
 -- a cap above the other cap is none
 cap : (a left : ℕ) → left < 2 ^ 64 → min (min a (2 ^ 64 - 1)) left ≡ min a left

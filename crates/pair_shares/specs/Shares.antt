@@ -7,16 +7,14 @@ use native.Mathlib.Nat.{le-refl, min-le-right}
 use native.Mathlib.Omega.{arith}
 use lib.IntN.{pos}
 use lib.Ieee.{Float, nan, inf, fin, up, down, binary64, ofBits, ofInt}
+use Rattle.lists.specs.Lists.{sum}
 use Rattle.movements.specs.declared.Counts.{Counts}
-use Rattle.movements.specs.Movements.{flowUnits}
+use Rattle.movements.specs.Movements.{entryLimit, flowUnits}
 use Rattle.flows.specs.declared.Flows.{Flows}
 use Rattle.flows.specs.declared.FlowTable.{FlowTable}
 use Rattle.flows.specs.Flows.{times}
 
--- the most that an entry discharges, veh/h
-abbrev pub entryLimit : ℕ
-entryLimit = 6000
-
+-- no entry discharges more than its limit
 abbrev pub WithinLimit : Counts → Type 0
 WithinLimit o = (o .left ≤ entryLimit) × (o .through ≤ entryLimit) × (o .right ≤ entryLimit) × (o .access ≤ entryLimit)
 
@@ -55,11 +53,6 @@ pairRows cells o =
 abbrev pub noPairs : List (List ℕ)
 noPairs = let row : List ℕ = 0 ∷ 0 ∷ 0 ∷ 0 ∷ [] in row ∷ row ∷ row ∷ row ∷ []
 
--- a row's sum
-abbrev pub rowSum : List ℕ → ℕ
-rowSum [] = 0
-rowSum (x ∷ xs) = x + rowSum xs
-
 limited-le : (x : Float) (left : ℕ) → limited x left ≤ left
 unfolding limited
 limited-le nan left = zero-le
@@ -72,14 +65,15 @@ pub share-le : (x : Float) (left : ℕ) → share x left ≤ left
 unfolding share
 share-le x left = limited-le (times x thousand) left
 
-pub row-adds : (c : Flows) (all : ℕ) → rowSum (pairRow c all) ≡ all
+pub row-adds : (c : Flows) (all : ℕ) → sum (pairRow c all) ≡ all
+unfolding sum
 row-adds c all =
     let l = share (c .left) all in
     let r = share (c .right) (all - l) in
     omega (arith, share-le (c .left) all, share-le (c .right) (all - l), share-le (c .access) (all - l - r))
 
 -- each row adds to 1000·O, whatever the cells
-pub rows-add : (cells : FlowTable) (o : Counts) → map rowSum (pairRows cells o) ≡ map flowUnits (o .left ∷ o .through ∷ o .right ∷ o .access ∷ [])
+pub rows-add : (cells : FlowTable) (o : Counts) → map sum (pairRows cells o) ≡ map flowUnits (o .left ∷ o .through ∷ o .right ∷ o .access ∷ [])
 unfolding pairRows
 rows-add cells o =
     rw (

@@ -2,20 +2,12 @@
 // A lower layer's crate: `pair_rows` asks that no entry discharges more than 6000 veh/h.
 ghost use mathlib.Core.Path.{_≡_};
 ghost use Prim.Native.Nat.{_≤_};
-ghost use Rattle.pair_shares.specs.Shares.{entryLimit, WithinLimit, share, pairRow, pairRows};
-ghost use Rattle.movements.specs.Movements.{flowUnits};
+ghost use Rattle.pair_shares.specs.Shares.{WithinLimit, share, pairRow, pairRows};
 use flows::FlowTable;
 use flows::Flows;
 use movements::Counts;
 
-fn flow_units(o: u32) -> u32
-    requires { ⌜ o ≤ entryLimit ⌝ }
-    ensures { λ r. ⌜ r ≡ flowUnits o ⌝ }
-{
-    1000 * o
-}
-
-// The whole part of 1000 cells, or what is left of the row if that is less.
+// The whole part of cell·1000, or what is left of the row if that is less.
 fn share(cell: f64, left: u32) -> u32
     ensures { λ r. ⌜ (r ≡ share cell left) × (r ≤ left) ⌝ }
 {
@@ -50,9 +42,9 @@ pub fn pair_rows(cells: FlowTable, o: Counts) -> [[u32; 4]; 4]
     ensures { λ r. ⌜ r ≡ pairRows cells o ⌝ }
 {
     let mut rows = [[0u32; 4]; 4];
-    rows[0] = pair_row(cells.left, flow_units(o.left));
-    rows[1] = pair_row(cells.through, flow_units(o.through));
-    rows[2] = pair_row(cells.right, flow_units(o.right));
-    rows[3] = pair_row(cells.access, flow_units(o.access));
+    rows[0] = pair_row(cells.left, movements::flow_units(o.left));
+    rows[1] = pair_row(cells.through, movements::flow_units(o.through));
+    rows[2] = pair_row(cells.right, movements::flow_units(o.right));
+    rows[3] = pair_row(cells.access, movements::flow_units(o.access));
     rows
 }

@@ -2,7 +2,7 @@
 -- Assumes nothing.
 use Prim.Native.Nat.{ℕ}
 use mathlib.Core.Bool.{Bool, true, false, not, cond, _||_}
-use mathlib.Core.List.{[], _∷_, map}
+use mathlib.Core.List.{List, [], _∷_, map}
 use mathlib.Core.Path.{_≡_, refl, sym, _∙_}
 use native.Mathlib.Omega.{arith}
 use lib.Dec.{eqb}
@@ -15,7 +15,8 @@ use Rattle.balance.specs.declared.Settling.{Settling}
 use Rattle.balance.specs.declared.Settling.the-variants.{Settled, Unsettled}
 use Rattle.balance.specs.declared.Balance.{Balance}
 use Rattle.balance.specs.Settling.{balanced}
-use Rattle.pair_shares.specs.Shares.{rowSum, rows-add}
+use Rattle.lists.specs.Lists.{sum}
+use Rattle.pair_shares.specs.Shares.{pairRows, rows-add}
 use Rattle.movements.specs.Movements.{flowUnits}
 use Rattle.served.specs.Served.{noVolume, anyUnservedEntry, anyUnservedExit}
 use Rattle.shares.specs.declared.Verdict.{Verdict}
@@ -40,20 +41,26 @@ told-whole a b e =
     λ i. record { verdict = v i; rounds = e i .rounds; pairs = record { rows = e i .pairs } }
 
 module _ (o : Counts) where
-  -- the rows add to 1000·O
-  abbrev pub UsedUp : Told → Type 0
-  UsedUp t = map rowSum (t .pairs) ≡ map flowUnits (o .left ∷ o .through ∷ o .right ∷ o .access ∷ [])
+  -- pair flows that were shared come from cells
+  pub record FromCells (rows : List (List ℕ)) : Type 0 where
+    pub cells : FlowTable
+    pub is : rows ≡ pairRows cells o
 
-  settled-adds : (k : Settling) (n : ℕ) (c : FlowTable) → bySettling k n c o .number ≡ 0 → UsedUp (bySettling k n c o)
-  settled-adds (Settled x) n c e = rows-add c o
-  settled-adds (Unsettled x) n c e = absurd (omega arith)
+  by-settling : (k : Settling) (n : ℕ) (c : FlowTable) → bySettling k n c o .number ≡ 0 → FromCells (bySettling k n c o .pairs)
+  by-settling (Settled x) n c e = record { cells = c; is = refl }
+  by-settling (Unsettled x) n c e = absurd (omega arith)
 
-  answer-adds : (t u : Bool) (b : Balance) → answer o (need 13 t (need 14 u (ok b))) .number ≡ 0 → UsedUp (answer o (need 13 t (need 14 u (ok b))))
+  by-tests : (t u : Bool) (b : Balance) → answer o (need 13 t (need 14 u (ok b))) .number ≡ 0 → FromCells (answer o (need 13 t (need 14 u (ok b))) .pairs)
   unfolding need settledTo
-  answer-adds false u b e = absurd (omega arith)
-  answer-adds true false b e = absurd (omega arith)
-  answer-adds true true b e = settled-adds (b .settling) (b .rounds) (b .cells) e
+  by-tests false u b e = absurd (omega arith)
+  by-tests true false b e = absurd (omega arith)
+  by-tests true true b e = by-settling (b .settling) (b .rounds) (b .cells) e
 
-  pub shared-adds : (exits : Counts) (s : Seeds) → sharing o exits s .number ≡ 0 → UsedUp (sharing o exits s)
+  pub from-cells : (exits : Counts) (s : Seeds) → sharing o exits s .number ≡ 0 → FromCells (sharing o exits s .pairs)
   unfolding sharing
-  shared-adds exits s = answer-adds (not (noVolume o exits)) (not (anyUnservedEntry o exits s || anyUnservedExit o exits s)) (balanced o exits s)
+  from-cells exits s = by-tests (not (noVolume o exits)) (not (anyUnservedEntry o exits s || anyUnservedExit o exits s)) (balanced o exits s)
+
+  -- so each entry's row adds to 1000·O
+  pub shared-adds : (exits : Counts) (s : Seeds) → sharing o exits s .number ≡ 0 →
+      map sum (sharing o exits s .pairs) ≡ map flowUnits (o .left ∷ o .through ∷ o .right ∷ o .access ∷ [])
+  shared-adds exits s e = let f = from-cells exits s e in rw (f .is) (rows-add (f .cells) o)

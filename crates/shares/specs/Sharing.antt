@@ -1,6 +1,7 @@
 -- The answer on volumes and seeds: refusals 13, 14, 15 in order, or the pair flows.
 use Prim.Native.Nat.{ℕ}
-use mathlib.Core.Bool.{_||_, not}
+use mathlib.Core.Bool.{cond, _||_, not}
+use lib.Dec.{eqb}
 use mathlib.Core.List.{List}
 use lib.Ieee.{Float}
 use Rattle.refusal.specs.Refusal.{Or, refused, ok, need}
@@ -9,8 +10,8 @@ use Rattle.movements.specs.declared.Seeds.{Seeds}
 use Rattle.flows.specs.declared.FlowTable.{FlowTable}
 use Rattle.flows.specs.Flows.{zero64}
 use Rattle.balance.specs.declared.Settling.{Settling}
-use Rattle.balance.specs.declared.Settling.the-variants.{Settled, Unsettled}
 use Rattle.balance.specs.declared.Balance.{Balance}
+use Rattle.balance.specs.Settling as balance
 use Rattle.balance.specs.Settling.{balanced}
 use Rattle.shares.specs.declared.Verdict.{Verdict}
 use Rattle.shares.specs.declared.Verdict.the-variants as verdict
@@ -47,8 +48,10 @@ abbrev pub refusal : ℕ → Float → Told
 refusal number sum = record { number = number; sum = sum; rounds = 0; pairs = noPairs }
 
 abbrev pub bySettling : Settling → ℕ → FlowTable → Counts → Told
-bySettling (Settled x) rounds cells o = record { number = 0; sum = x; rounds = rounds; pairs = pairRows cells o }
-bySettling (Unsettled x) rounds cells o = refusal 15 x
+bySettling k rounds cells o =
+    cond (eqb (balance.numberOf k) 0)
+    (record { number = 0; sum = balance.lastSumOf k; rounds = rounds; pairs = pairRows cells o })
+    (refusal (balance.numberOf k) (balance.lastSumOf k))
 
 unfoldable pub settledTo : Counts → Balance → Told
 settledTo o b = bySettling (b .settling) (b .rounds) (b .cells) o
