@@ -1,6 +1,7 @@
 // Balancing of discharge and exit volumes over the sixteen pairs of an entry and an exit:
 // rounds of equations 30-4 to 30-7 until the adjusted origins settle.
 ghost use mathlib.Core.Path.{_≡_};
+ghost use Rattle.flows.specs.Flows.{noFlows};
 ghost use Rattle.balance.specs.Settling.{roundLimit, cell, cellRow, cellsOf, unsettled, closed, start, settle, balanced};
 use balance_round::Round;
 use flows::FlowTable;
@@ -54,15 +55,21 @@ fn cells_of(origins: Flows, b: Flows, p: FlowTable) -> FlowTable
     }
 }
 
-fn unsettled(sum: f64, rounds: u32) -> Balance
-    ensures { λ r. ⌜ r ≡ unsettled sum rounds ⌝ }
+fn no_flows() -> Flows
+    ensures { λ r. ⌜ r ≡ noFlows ⌝ }
 {
-    let none = Flows {
+    Flows {
         left: 0.0,
         through: 0.0,
         right: 0.0,
         access: 0.0,
-    };
+    }
+}
+
+fn unsettled(sum: f64, rounds: u32) -> Balance
+    ensures { λ r. ⌜ r ≡ unsettled sum rounds ⌝ }
+{
+    let none = no_flows();
     Balance {
         settling: Settling::Unsettled(sum),
         rounds,
@@ -93,12 +100,7 @@ fn closed(cells: FlowTable, sum: f64, rounds: u32) -> Balance
 fn start(o: Flows) -> Round
     ensures { λ r. ⌜ r ≡ start o ⌝ }
 {
-    let none = Flows {
-        left: 0.0,
-        through: 0.0,
-        right: 0.0,
-        access: 0.0,
-    };
+    let none = no_flows();
     Round {
         destinations: none,
         ratios: none,

@@ -1,5 +1,5 @@
 -- The pair flows of each entry: item 5 of "Metering and shares".
-use Prim.Native.Nat.{ℕ, _+_, _-_, _*_, _/_, _≤_, min, zero-le}
+use Prim.Native.Nat.{ℕ, _-_, _*_, _/_, _≤_, min, zero-le}
 use mathlib.Core.Bool.{true, false, cond}
 use mathlib.Core.List.{List, [], _∷_, map}
 use mathlib.Core.Path.{_≡_, refl}

@@ -2,7 +2,7 @@
 use Prim.Native.Nat.{ℕ}
 use native.Mathlib.Omega.{arith}
 use mathlib.Core.Bool.{Bool, true, false, _&&_}
-use mathlib.Core.Path.{_≡_, refl}
+use mathlib.Core.Path.{_≡_, refl, subst}
 
 pub data Or (A : Type 0) : Type 0 where
   refused : ℕ → Or A
@@ -33,6 +33,12 @@ pub need-rest : {A : Type 0} (n : ℕ) (t : Bool) (x : Or A) (a : A) → need n 
 unfolding need
 need-rest n true x a e = e
 need-rest n false x a e = cc
+
+-- a refusal has the test's number, or that of the tests after it
+pub need-number : {A : Type 0} (P : ℕ → Type 0) (n : ℕ) (t : Bool) (x : Or A) (m : ℕ) → P n → (x ≡ refused m → P m) → need n t x ≡ refused m → P m
+unfolding need
+need-number P n true x m own rest e = rest e
+need-number P n false x m own rest e = let q : n ≡ m = cc in subst P q own
 
 -- two tests in one
 pub both : (a b : Bool) → (a && b) ≡ true → (a ≡ true) × (b ≡ true)

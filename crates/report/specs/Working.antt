@@ -1,10 +1,10 @@
 -- What the working of a record answers does not depend on the profiles that it is lent, where they have room for every cycle.
 use Prim.Native.Nat.{ℕ, _*_, _≤_}
 use native.Mathlib.Omega.{arith}
-use mathlib.Core.Bool.{Bool, true, false, _&&_}
+use mathlib.Core.Bool.{Bool, true, false}
 use mathlib.Core.Path.{_≡_, refl}
 use mathlib.Core.List.{List}
-use lib.Dec.{leb, eqb}
+use lib.Dec.{eqb}
 use lib.ListN.{length, replicate, length-replicate}
 use borrow.Author.Tests.{le-leb}
 use Rattle.refusal.specs.Refusal.{Or, refused, ok, need, andThen, pick}
@@ -15,30 +15,25 @@ use Rattle.validation.specs.Accepting.{acceptWith}
 use Rattle.shares.specs.Sharing.{Told}
 use Rattle.propagation.specs.Propagation.{Profiles, filledOf}
 use Rattle.propagation.specs.Steps.{Room}
-use Rattle.working.specs.declared.Outcome.the-variants.{Refused, Unsettled}
-use Rattle.working.specs.declared.Working.{Working}
-use Rattle.working.specs.Working.{called, refusedWith, workedOf, sharingOf, bySharing, byRecord, callOf}
+use Rattle.working.specs.Working.{fits, called, unworkedOf, workedOf, sharingOf, bySharing, byRecord, callOf}
 use Rattle.report.specs.Report.{longest}
 
-abbrev fits : Profiles → Segment → Bool
-fits p s = leb (4 * s .cycle) (length (p .output)) && leb (s .cycle) (length (p .first)) && leb (s .cycle) (length (p .second))
+abbrev fitsIn : Profiles → Segment → Bool
+fitsIn p = fits (length (p .output)) (length (p .first)) (length (p .second))
 
-roomy : (p : Profiles) (s : Segment) → s .cycle ≤ 240 → Room 240 p → fits p s ≡ true
+roomy : (p : Profiles) (s : Segment) → s .cycle ≤ 240 → Room 240 p → fitsIn p s ≡ true
 roomy p s h r =
     let a : 4 * s .cycle ≤ length (p .output) = omega (arith, r .output) in
     let b : s .cycle ≤ length (p .first) = omega (arith, r .first) in
     let d : s .cycle ≤ length (p .second) = omega (arith, r .second) in
     rw (le-leb _ _ a, le-leb _ _ b, le-leb _ _ d)
 
-abbrev unworked : Told → Working
-unworked t = refusedWith (pick (eqb (t .number) 15) (Unsettled (t .sum)) (Refused (t .number)))
-
 sharing-answer : (s : Segment) (t : Told) (p p′ : Profiles) → bySharing s t p .answer ≡ bySharing s t p′ .answer
 sharing-answer s t p p′ = go (eqb (t .number) 0)
   where
     go : (b : Bool)
-        → pick b (called (workedOf s t) (filledOf s (t .pairs) p)) (called (unworked t) p) .answer
-        ≡ pick b (called (workedOf s t) (filledOf s (t .pairs) p′)) (called (unworked t) p′) .answer
+        → pick b (called (workedOf s t) (filledOf s (t .pairs) p)) (called (unworkedOf t) p) .answer
+        ≡ pick b (called (workedOf s t) (filledOf s (t .pairs) p′)) (called (unworkedOf t) p′) .answer
     go true = refl
     go false = refl
 
@@ -47,7 +42,7 @@ unfolding callOf acceptWith need
 same-answer l p p′ r r′ = go (checkOf l) refl
   where
     go : (x : Or Segment) → checkOf l ≡ x
-        → byRecord (andThen x (λ s. need 16 (fits p s) (ok s))) p .answer ≡ byRecord (andThen x (λ s. need 16 (fits p′ s) (ok s))) p′ .answer
+        → byRecord (andThen x (λ s. need 16 (fitsIn p s) (ok s))) p .answer ≡ byRecord (andThen x (λ s. need 16 (fitsIn p′ s) (ok s))) p′ .answer
     go (refused n) e = refl
     go (ok s) e =
         let h : s .cycle ≤ 240 = accepted l s e .ranges .cycle .1 in

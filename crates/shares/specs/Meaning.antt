@@ -22,7 +22,7 @@ use Rattle.served.specs.Served.{noVolume, anyUnservedEntry, anyUnservedExit}
 use Rattle.shares.specs.declared.Verdict.{Verdict}
 use Rattle.shares.specs.declared.Verdict.the-variants as verdict
 use Rattle.shares.specs.declared.Sharing.{Sharing}
-use Rattle.shares.specs.Sharing.{numberOf, lastSumOf, Told, told, bySettling, settledTo, answer, sharing}
+use Rattle.shares.specs.Sharing.{numberOf, lastSumOf, told, bySettling, settledTo, answer, sharing}
 
 -- the number and the last sum fix the verdict
 from : ℕ → Float → Verdict

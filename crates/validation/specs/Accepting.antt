@@ -1,10 +1,11 @@
 -- A call on a record: the refusals of the record, then 16 where the lent profiles do not fit it.
-use Prim.Native.Nat.{ℕ}
+use Prim.Native.Nat.{ℕ, _≤_}
 use native.Mathlib.Omega.{arith}
 use mathlib.Core.Bool.{Bool, true, false}
 use mathlib.Core.Path.{_≡_, refl, ap, _∙_}
 use mathlib.Core.List.{List}
-use Rattle.refusal.specs.Refusal.{Or, refused, ok, need, need-passed, need-rest, andThen}
+use Rattle.refusal.specs.Refusal.{Or, refused, ok, need, need-passed, need-rest, need-number, andThen}
+use Rattle.segment.specs.Segment.{segmentOf}
 use Rattle.segment.specs.declared.Segment.{Segment}
 use Rattle.validation.specs.declared.Checked.the-variants.{Refused, Valid}
 use Rattle.validation.specs.Validation.{checkOf, checkedOf}
@@ -21,6 +22,22 @@ checked-refused (ok s) n e = cc
 pub checked-valid : (x : Or Segment) (s : Segment) → checkedOf x ≡ Valid s → x ≡ ok s
 checked-valid (refused m) s e = cc
 checked-valid (ok t) s e = cc
+
+ok-refused : {P : Type 0} (s : Segment) (n : ℕ) → _≡_ {A = Or Segment} (ok s) (refused n) → P
+ok-refused s n e = let z : _≡_ {A = ℕ} 0 1 = cc in absurd (omega arith)
+
+-- the record's refusals are 6 to 12
+pub check-numbers : (P : ℕ → Type 0) → ((n : ℕ) → 6 ≤ n → n ≤ 12 → P n) → (l : List ℕ) (n : ℕ) → checkOf l ≡ refused n → P n
+unfolding checkOf
+check-numbers P low l n e =
+    need-number P 6 _ _ n (low 6 (omega arith) (omega arith))
+    (need-number P 7 _ _ n (low 7 (omega arith) (omega arith))
+    (need-number P 8 _ _ n (low 8 (omega arith) (omega arith))
+    (need-number P 9 _ _ n (low 9 (omega arith) (omega arith))
+    (need-number P 10 _ _ n (low 10 (omega arith) (omega arith))
+    (need-number P 11 _ _ n (low 11 (omega arith) (omega arith))
+    (need-number P 12 _ _ n (low 12 (omega arith) (omega arith)) (λ r. ok-refused (segmentOf l) n r)))))))
+    e
 
 module _ (l : List ℕ) (fits : Segment → Bool) where
   pub accept-refused : (n : ℕ) → checkedOf (checkOf l) ≡ Refused n → Refused n ≡ checkedOf (acceptWith l fits)
@@ -47,3 +64,12 @@ module _ (l : List ℕ) (fits : Segment → Bool) where
           let same : t ≡ s = cc in
           let k = need-passed 16 (fits t) (ok t) s f in
           (accepted l s (q ∙ ap (λ (u : Segment). ok u) same), (rw same at k))
+
+  -- whatever holds of 6 to 12 and of 16 holds of the number of a refusal: there is no other
+  pub accept-numbers : (P : ℕ → Type 0) → ((n : ℕ) → 6 ≤ n → n ≤ 12 → P n) → P 16 → (n : ℕ) → acceptWith l fits ≡ refused n → P n
+  unfolding acceptWith
+  accept-numbers P low last n e = go (checkOf l) refl e
+    where
+      go : (x : Or Segment) → checkOf l ≡ x → andThen x (λ t. need 16 (fits t) (ok t)) ≡ refused n → P n
+      go (refused m) q f = check-numbers P low l n (q ∙ f)
+      go (ok t) q f = need-number P 16 (fits t) (ok t) n last (λ r. ok-refused t n r) f

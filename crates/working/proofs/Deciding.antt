@@ -7,15 +7,16 @@ use mathlib.Core.List.{List}
 use lib.Dec.{leb, eqb}
 use lib.Ieee.{Float}
 use lib.ListN.{length, drop}
-use borrow.Author.Tests.{leb-true, eqb-true}
-use Rattle.refusal.specs.Refusal.{Or, ok, pick, both}
+use borrow.Author.Tests.{leb-true, eqb-true, ne-eqb}
+use Rattle.refusal.specs.Refusal.{Or, refused, ok, pick, both}
 use Rattle.segment.specs.declared.Segment.{Segment}
 use Rattle.segment.specs.Segment.{segmentOf}
 use Rattle.validation.specs.declared.Checked.the-variants as checked
 use Rattle.validation.specs.Validation.{checkedOf}
-use Rattle.validation.specs.Accepting.{checked-refused, checked-valid, accept-passed}
+use Rattle.validation.specs.Accepting.{checked-refused, checked-valid, accept-passed, accept-numbers}
 use Rattle.validation.specs.Ranges.{Ranges, Accepted}
 use Rattle.movements.specs.declared.Counts.{Counts}
+use Rattle.flows.specs.Flows.{zero64}
 use Rattle.metering.specs.Metering.{dischargesOf}
 use Rattle.shares.specs.declared.Verdict.{Verdict}
 use Rattle.shares.specs.declared.Sharing.{Sharing}
@@ -27,7 +28,7 @@ use Rattle.demand3.specs.Holds.{demand-3}
 use Rattle.working.specs.declared.Outcome.{Outcome}
 use Rattle.working.specs.declared.Outcome.the-variants.{Worked, Refused, Unsettled}
 use Rattle.working.specs.declared.Working.{Working}
-use Rattle.working.specs.Working.{acceptOf, sharingOf, refusedWith, workedOf, Called, called, bySharing, callOf, Works}
+use Rattle.working.specs.Working.{outcomeOf, acceptOf, sharingOf, refusedWith, workedOf, Called, called, bySharing, callOf, Works}
 use Rattle.working.specs.Filled.{Filled}
 use Rattle.working.proofs.Rows.{rows-fit}
 
@@ -98,7 +99,7 @@ module _ (l : List ℕ) (p : Profiles) where
   -- demand 3 of whatever the call works
   worked-demand : (s : Segment) → accepts ≡ ok s → (t : Bool) → eqb (sharingOf s .number) 0 ≡ t → (w : Working) (p′ : Profiles) →
       called w p′ ≡ pick t (called (workedOf s (sharingOf s)) (filledOf s (sharingOf s .pairs) p))
-      (called (refusedWith (pick (eqb (sharingOf s .number) 15) (Unsettled (sharingOf s .sum)) (Refused (sharingOf s .number)))) p) →
+      (called (refusedWith (pick t (Worked (sharingOf s .sum)) (pick (eqb (sharingOf s .number) 15) (Unsettled (sharingOf s .sum)) (Refused (sharingOf s .number))))) p) →
       (x : Float) → w .outcome ≡ Worked x → Demand3 (segmentOf l) (w .pairs .rows) (p′ .output)
   unfolding workedOf
   worked-demand s a true e w p′ q x o =
@@ -118,11 +119,17 @@ module _ (l : List ℕ) (p : Profiles) where
       let a = checked-valid accepts s e in
       record { is = q ∙ rw a; demand = worked-demand s a (eqb (sharingOf s .number) 0) refl w p′ q }
 
-  -- refused for its record or a profile's length
+  -- refused for its record or a profile's length, so not by 0 or 15
+  own-case : (n : ℕ) → accepts ≡ refused n → outcomeOf n zero64 ≡ Refused n
+  own-case n e =
+      let k = accept-numbers l _ (λ m. (eqb m 0 ≡ false) × (eqb m 15 ≡ false))
+      (λ m low high. (ne-eqb m 0 (λ q. (omega arith)), ne-eqb m 15 (λ q. (omega arith)))) (refl, refl) n e in
+      rw (k .0, k .1)
+
   pub record-refused : (n : ℕ) → checkedOf accepts ≡ checked.Refused n → (w : Working) → w ≡ refusedWith (Refused n) → Works l p w p
   unfolding callOf
   record-refused n e w ew =
       record {
-        is = rw (checked-refused accepts n e) (ap (λ (v : Working). called v p) ew);
+        is = rw (checked-refused accepts n e, own-case n (checked-refused accepts n e)) (ap (λ (v : Working). called v p) ew);
         demand = λ x o. absurd (never false x x n (sym (ap (λ (v : Working). v .outcome) ew) ∙ o));
       }

@@ -1,26 +1,19 @@
 -- The pair flows of an accepted working fit their entries, and the discharge volumes their limit.
 use Prim.Native.Nat.{ℕ, zero, suc, _≤_, _<_}
 use native.Mathlib.Omega.{arith}
-use mathlib.Core.Bool.{Bool, true, false, not, _||_}
 use mathlib.Core.Path.{_≡_, refl}
 use mathlib.Core.List.{List, [], _∷_}
 use lib.ListN.{length, getD}
-use Rattle.refusal.specs.Refusal.{ok, need}
+use Rattle.lists.specs.Lists.{sum}
 use Rattle.movements.specs.declared.Counts.{Counts}
-use Rattle.movements.specs.declared.Seeds.{Seeds}
 use Rattle.movements.specs.Movements.{flowUnits}
 use Rattle.flows.specs.declared.Flows.{Flows}
 use Rattle.flows.specs.declared.FlowTable.{FlowTable}
 use Rattle.segment.specs.declared.Segment.{Segment}
 use Rattle.validation.specs.Ranges.{Ranges}
 use Rattle.metering.specs.Metering.{discharged, dischargesOf, discharged-volume}
-use Rattle.balance.specs.declared.Settling.{Settling}
-use Rattle.balance.specs.declared.Settling.the-variants.{Settled, Unsettled}
-use Rattle.balance.specs.declared.Balance.{Balance}
-use Rattle.balance.specs.Settling.{balanced}
-use Rattle.served.specs.Served.{noVolume, anyUnservedEntry, anyUnservedExit}
-use Rattle.pair_shares.specs.Shares.{WithinLimit, pairRow, pairRows, rowSum, row-adds}
-use Rattle.shares.specs.Sharing.{bySettling, settledTo, answer, sharing}
+use Rattle.pair_shares.specs.Shares.{WithinLimit, pairRow, pairRows, row-adds}
+use Rattle.shares.specs.Meaning.{from-cells}
 use Rattle.propagation.specs.Steps.{RowsFit}
 use Rattle.working.specs.Working.{sharingOf}
 
@@ -34,29 +27,9 @@ limits s o r e =
       r .access,
     )
 
--- pair flows that were shared come from cells
-record FromCells (o : Counts) (rows : List (List ℕ)) : Type 0 where
-  cells : FlowTable
-  is : rows ≡ pairRows cells o
-
-by-settling : (k : Settling) (n : ℕ) (c : FlowTable) (o : Counts) → bySettling k n c o .number ≡ 0 → FromCells o (bySettling k n c o .pairs)
-by-settling (Settled x) n c o e = record { cells = c; is = refl }
-by-settling (Unsettled x) n c o e = absurd (omega arith)
-
-by-tests : (t u : Bool) (b : Balance) (o : Counts) → answer o (need 13 t (need 14 u (ok b))) .number ≡ 0 →
-    FromCells o (answer o (need 13 t (need 14 u (ok b))) .pairs)
-unfolding need settledTo
-by-tests false u b o e = absurd (omega arith)
-by-tests true false b o e = absurd (omega arith)
-by-tests true true b o e = by-settling (b .settling) (b .rounds) (b .cells) o e
-
-from-cells : (o exits : Counts) (seeds : Seeds) → sharing o exits seeds .number ≡ 0 → FromCells o (sharing o exits seeds .pairs)
-unfolding sharing
-from-cells o exits seeds =
-    by-tests (not (noVolume o exits)) (not (anyUnservedEntry o exits seeds || anyUnservedExit o exits seeds)) (balanced o exits seeds) o
-
 -- a number of a row is no more than their sum
-number-le : (l : List ℕ) (j : ℕ) → getD l j 0 ≤ rowSum l
+number-le : (l : List ℕ) (j : ℕ) → getD l j 0 ≤ sum l
+unfolding sum
 number-le [] j = omega arith
 number-le (x ∷ l) zero = omega arith
 number-le (x ∷ l) (suc j) = omega (arith, number-le l j)

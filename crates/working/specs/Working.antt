@@ -1,16 +1,18 @@
 -- The working of a segment record over three lent profiles: what it answers and leaves in them, on every way.
 use Prim.Native.Nat.{ℕ, _*_}
-use mathlib.Core.Bool.{_&&_}
-use mathlib.Core.Path.{_≡_}
+use mathlib.Core.Bool.{Bool, true, false, _&&_}
+use mathlib.Core.Path.{_≡_, refl, sym}
 use mathlib.Core.List.{List}
 use lib.Dec.{leb, eqb}
 use lib.Ieee.{Float}
 use lib.ListN.{length}
+use borrow.Author.Tests.{eqb-true}
 use Rattle.refusal.specs.Refusal.{Or, refused, ok, pick}
 use Rattle.lists.specs.Lists.{sum, tab}
 use Rattle.segment.specs.declared.Segment.{Segment}
 use Rattle.segment.specs.Segment.{segmentOf}
 use Rattle.validation.specs.Accepting.{acceptWith}
+use Rattle.flows.specs.Flows.{zero64}
 use Rattle.metering.specs.Metering.{dischargesOf}
 use Rattle.dispersion.specs.Dispersion.{arrivalTimeOf}
 use Rattle.exit_figures.specs.declared.ExitFigures.{ExitFigures}
@@ -23,15 +25,30 @@ use Rattle.working.specs.declared.Outcome.{Outcome}
 use Rattle.working.specs.declared.Outcome.the-variants.{Worked, Refused, Unsettled}
 use Rattle.working.specs.declared.Working.{Working}
 
--- the outcome's cases: the paper's number, 0 where it is worked
+-- the outcome's cases: the paper's number, 0 where it is worked; 0 and 15 tell the last sum
+abbrev pub outcomeOf : (number : ℕ) → (sum : Float) → Outcome
+outcomeOf number sum = pick (eqb number 0) (Worked sum) (pick (eqb number 15) (Unsettled sum) (Refused number))
+
 abbrev pub numberOf : Outcome → ℕ
-numberOf (Worked x) = 0
-numberOf (Refused n) = n
-numberOf (Unsettled x) = 15
+numberOf (Worked sum) = 0
+numberOf (Refused number) = number
+numberOf (Unsettled sum) = 15
+
+pub outcome-number : (number : ℕ) (sum : Float) → numberOf (outcomeOf number sum) ≡ number
+outcome-number number sum = go (eqb number 0) refl (eqb number 15) refl
+  where
+    go : (a : Bool) → eqb number 0 ≡ a → (b : Bool) → eqb number 15 ≡ b → numberOf (pick a (Worked sum) (pick b (Unsettled sum) (Refused number))) ≡ number
+    go true ea b eb = sym (eqb-true number 0 ea)
+    go false ea true eb = sym (eqb-true number 15 eb)
+    go false ea false eb = refl
+
+-- the lengths of lent profiles that have room for a record's cycle
+abbrev pub fits : (output first second : ℕ) → Segment → Bool
+fits output first second s = leb (4 * s .cycle) output && leb (s .cycle) first && leb (s .cycle) second
 
 -- the places record and lent profiles
 abbrev pub acceptOf : List ℕ → (output first second : ℕ) → Or Segment
-acceptOf l output first second = acceptWith l (λ s. leb (4 * s .cycle) output && leb (s .cycle) first && leb (s .cycle) second)
+acceptOf l output first second = acceptWith l (fits output first second)
 
 -- the place volumes: the sixteen pair flows, or 13, 14, 15
 unfoldable pub sharingOf : Segment → Told
@@ -63,7 +80,7 @@ refusedWith o =
 unfoldable pub workedOf : Segment → Told → Working
 workedOf s t =
     record {
-      outcome = Worked (t .sum);
+      outcome = outcomeOf 0 (t .sum);
       arrival = arrivalTimeOf (s .running);
       rounds = t .rounds;
       pairs = record { rows = t .pairs };
@@ -73,6 +90,10 @@ workedOf s t =
       access = sum (runOf s (t .pairs) 3);
       blocked = blockedSteps (s .headway) (runOf s (t .pairs) 1);
     }
+
+-- refused for its volumes
+abbrev pub unworkedOf : Told → Working
+unworkedOf t = refusedWith (outcomeOf (t .number) (t .sum))
 
 -- the answer, and the lent profiles afterwards
 pub record Called : Type 0 where
@@ -86,10 +107,10 @@ abbrev pub bySharing : Segment → Told → Profiles → Called
 bySharing s t p =
     pick (eqb (t .number) 0)
     (called (workedOf s t) (filledOf s (t .pairs) p))
-    (called (refusedWith (pick (eqb (t .number) 15) (Unsettled (t .sum)) (Refused (t .number)))) p)
+    (called (unworkedOf t) p)
 
 abbrev pub byRecord : Or Segment → Profiles → Called
-byRecord (refused n) p = called (refusedWith (Refused n)) p
+byRecord (refused n) p = called (refusedWith (outcomeOf n zero64)) p
 byRecord (ok s) p = bySharing s (sharingOf s) p
 
 unfoldable pub callOf : List ℕ → Profiles → Called
