@@ -12,7 +12,7 @@ use lib.Seq.{drop-cons, take-at, drop-at, drop-drop, length-take-le, getD-take, 
 use borrow.Author.Tests.{ltb-true, ltb-false}
 use Rattle.signal.specs.Landing.{added}
 use Rattle.pair_parts.specs.PairParts.{pairArrivals}
-use Rattle.arrivals.specs.Arrivals.{perRun, PairRanges, EntryRanges}
+use Rattle.arrivals.specs.Arrivals.{runLimit, perRun, PairRanges, EntryRanges}
 
 -- j runs worked, the others as they were
 pub record Worked (g : ℕ → List ℕ → List ℕ) (c : ℕ) (row out₀ out : List ℕ) (j : ℕ) : Type 0 where
@@ -26,17 +26,21 @@ worked-start g c row out =
     let z : 0 * c ≡ 0 = omega arith in
     record { within = omega arith; long = refl; rest = refl; same = rw z }
 
--- the width of a part lent from a to a + c
+-- the width of a part from a to a + c
 width : (a c : ℕ) → a + c - a ≡ c
 width a c = omega arith
 
+-- a run ends within the four
+pub run-ends : (c j : ℕ) → j < 4 → j * c + c ≤ 4 * c
+run-ends c j more = omega (arith, mul-le-mul-right c more)
+
 module _ {g : ℕ → List ℕ → List ℕ} {c : ℕ} {row out₀ out : List ℕ} {j : ℕ} (r : Worked g c row out₀ out j) (more : j < 4) (room : 4 * c ≤ length out₀) where
   within-out : j * c + c ≤ length out
-  within-out = omega (arith, r .long, mul-le-mul-right c more)
+  within-out = omega (arith, r .long, run-ends c j more)
 
-  -- the run that is lent
-  pub lent-length : length (take c (drop (j * c) out)) ≡ c
-  lent-length = length-take-le c (drop (j * c) out) (simp length-drop (omega (arith, within-out)))
+  -- the run that the loop works
+  pub run-length : length (take c (drop (j * c) out)) ≡ c
+  run-length = length-take-le c (drop (j * c) out) (simp length-drop (omega (arith, within-out)))
 
   pub worked-turn : length row ≡ 4 → (ys : List ℕ) → length ys ≡ length (take (j * c + c - j * c) (drop (j * c) out)) →
       ys ≡ g (getD row j 0) (take c (drop (j * c) out)) →
@@ -44,7 +48,7 @@ module _ {g : ℕ → List ℕ → List ℕ} {c : ℕ} {row out₀ out : List �
   unfolding perRun
   worked-turn four ys kept is =
       let n : (j + 1) * c ≡ j * c + c = omega arith in
-      let ly : length ys ≡ c = (rw width at kept) ∙ lent-length in
+      let ly : length ys ≡ c = (rw width at kept) ∙ run-length in
       let front = take (j * c) out ++ ys in
       let back = drop c (drop (j * c) out) in
       let lf : length (take (j * c) out ++ ys) ≡ j * c + c = rw (length-append, length-take-le (j * c) out (omega (arith, within-out)), ly) in
@@ -58,40 +62,40 @@ module _ {g : ℕ → List ℕ → List ℕ} {c : ℕ} {row out₀ out : List �
         same = r .same ∙ rw (n, tf, df, add-one, drop-cons row j 0 (omega arith), ← is, append-assoc);
       })
 
-  pub lent-filled : (v : ℕ) (ys : List ℕ) → ys ≡ replicate (length (take (j * c + c - j * c) (drop (j * c) out))) v → ys ≡ replicate c v
-  lent-filled v ys e = rw (width, lent-length) at e
+  pub run-filled : (v : ℕ) (ys : List ℕ) → ys ≡ replicate (length (take (j * c + c - j * c) (drop (j * c) out))) v → ys ≡ replicate c v
+  run-filled v ys e = rw (width, run-length) at e
 
 pub worked-done : {g : ℕ → List ℕ → List ℕ} {c : ℕ} {row out₀ out : List ℕ} {j : ℕ} → Worked g c row out₀ out j → 4 ≤ j → length row ≡ 4 → out ≡ perRun g c row out₀
 unfolding perRun
 worked-done {c} {row} {out} {j} r h four = sym (r .same ∙ rw (drop-of-length-le row {i = j} (omega arith)) (take-append-drop (j * c) out))
 
--- what adding asks of the run that is lent, and what it gives back
+-- what adding asks of that run, and what it gives back
 module _ {g : ℕ → List ℕ → List ℕ} {arrived : List ℕ} {w t : ℕ} {row out₀ out : List ℕ} {j : ℕ} (r : Worked g (length arrived) row out₀ out j) (more : j < 4)
     (a : EntryRanges w t row arrived out₀) where
-  lent-small : (k : ℕ) → getD (take (length arrived) (drop (j * length arrived) out)) k 0 ≤ 4000000000
-  lent-small k = go (ltb k (length arrived)) refl
+  run-small : (k : ℕ) → getD (take (length arrived) (drop (j * length arrived) out)) k 0 ≤ runLimit
+  run-small k = go (ltb k (length arrived)) refl
     where
-      go : (b : Bool) → ltb k (length arrived) ≡ b → getD (take (length arrived) (drop (j * length arrived) out)) k 0 ≤ 4000000000
+      go : (b : Bool) → ltb k (length arrived) ≡ b → getD (take (length arrived) (drop (j * length arrived) out)) k 0 ≤ runLimit
       go true e =
           let hk : k < length arrived = ltb-true k (length arrived) e in
           rw (getD-take (length arrived) (drop (j * length arrived) out) k 0 hk, r .rest, getD-drop)
-          (a .small (j * length arrived + k) (omega (arith, mul-le-mul-right (length arrived) more)))
+          (a .small (j * length arrived + k) (omega (arith, run-ends (length arrived) j more)))
       go false e =
-          omega (arith, List·getD-eq-default (take (length arrived) (drop (j * length arrived) out)) 0 {n = k} (omega (arith, lent-length r more (a .room), ltb-false k (length arrived) e)))
+          omega (arith, List·getD-eq-default (take (length arrived) (drop (j * length arrived) out)) 0 {n = k} (omega (arith, run-length r more (a .room), ltb-false k (length arrived) e)))
 
-  pub lent-ranges : PairRanges (getD row j 0) w t arrived (take (j * length arrived + length arrived - j * length arrived) (drop (j * length arrived) out))
-  lent-ranges =
+  pub run-ranges : PairRanges (getD row j 0) w t arrived (take (j * length arrived + length arrived - j * length arrived) (drop (j * length arrived) out))
+  run-ranges =
       rw width
       (record {
-        long = sym (lent-length r more (a .room));
-        cycle = omega (arith, lent-length r more (a .room), a .cycle);
+        long = sym (run-length r more (a .room));
+        cycle = omega (arith, run-length r more (a .room), a .cycle);
         share = a .shares j;
         time = a .time;
         arrivals = a .arrivals;
-        small = lent-small;
+        small = run-small;
       })
 
-  pub lent-added : (ys : List ℕ) →
+  pub run-added : (ys : List ℕ) →
       ys ≡ added (length (take (j * length arrived + length arrived - j * length arrived) (drop (j * length arrived) out))) t 1 (pairArrivals (getD row j 0) w arrived) (take (j * length arrived + length arrived - j * length arrived) (drop (j * length arrived) out)) →
       ys ≡ added (length arrived) t 1 (pairArrivals (getD row j 0) w arrived) (take (length arrived) (drop (j * length arrived) out))
-  lent-added ys e = rw (width, lent-length r more (a .room)) at e
+  run-added ys e = rw (width, run-length r more (a .room)) at e

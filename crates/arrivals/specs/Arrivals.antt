@@ -3,6 +3,7 @@ use Prim.Native.Nat.{ℕ, _*_, _≤_, _<_}
 use mathlib.Core.Path.{_≡_}
 use mathlib.Core.List.{List, [], _∷_, _++_}
 use lib.ListN.{length, take, drop, getD, replicate}
+use Rattle.lists.specs.Lists.{tab}
 use Rattle.signal.specs.Landing.{added}
 use Rattle.pair_parts.specs.PairParts.{pairArrivals}
 
@@ -19,14 +20,25 @@ begun c row out = perRun (λ v run. replicate c v) c row out
 unfoldable pub entryAdded : ℕ → ℕ → ℕ → List ℕ → List ℕ → List ℕ → List ℕ
 entryAdded c t w arrived row out = perRun (λ v run. added c t 1 (pairArrivals v w arrived) run) c row out
 
+-- four runs of c numbers, r j s number s of run j, and what lies beyond
+abbrev pub fourRuns : ℕ → (ℕ → ℕ → ℕ) → List ℕ → List ℕ
+fourRuns c r rest = tab (r 0) 1 c ++ (tab (r 1) 1 c ++ (tab (r 2) 1 c ++ (tab (r 3) 1 c ++ rest)))
+
+-- an arrival, and a number of a run before one is added: the sums of four entries fit
+abbrev pub arrivalLimit : ℕ
+arrivalLimit = 12000000
+
+abbrev pub runLimit : ℕ
+runLimit = 4000000000
+
 -- ranges in which the sums of one run fit
 pub record PairRanges (v w t : ℕ) (arrived run : List ℕ) : Type 0 where
   pub long : length arrived ≡ length run
   pub cycle : length run ≤ 240
   pub share : v ≤ w
   pub time : t < 1000
-  pub arrivals : (i : ℕ) → getD arrived i 0 ≤ 12000000
-  pub small : (k : ℕ) → getD run k 0 ≤ 4000000000
+  pub arrivals : (i : ℕ) → getD arrived i 0 ≤ arrivalLimit
+  pub small : (k : ℕ) → getD run k 0 ≤ runLimit
 
 -- and of the four
 pub record EntryRanges (w t : ℕ) (row arrived out : List ℕ) : Type 0 where
@@ -34,5 +46,5 @@ pub record EntryRanges (w t : ℕ) (row arrived out : List ℕ) : Type 0 where
   pub room : 4 * length arrived ≤ length out
   pub shares : (j : ℕ) → getD row j 0 ≤ w
   pub time : t < 1000
-  pub arrivals : (i : ℕ) → getD arrived i 0 ≤ 12000000
-  pub small : (k : ℕ) → k < 4 * length arrived → getD out k 0 ≤ 4000000000
+  pub arrivals : (i : ℕ) → getD arrived i 0 ≤ arrivalLimit
+  pub small : (k : ℕ) → k < 4 * length arrived → getD out k 0 ≤ runLimit

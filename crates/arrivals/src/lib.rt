@@ -10,12 +10,12 @@ ghost use Rattle.arrivals.specs.Arrivals.{PairRanges, EntryRanges, begun
 use signal::Step;
 
 // A pair's part of one arrival, and what is carried to the next.
-pub struct Part {
-    pub flow: u32,
-    pub carry: u32,
+struct Part {
+    flow: u32,
+    carry: u32,
 }
 
-pub fn part_of(arrival: u32, v: u32, w: u32, carry: u32) -> Part
+fn part_of(arrival: u32, v: u32, w: u32, carry: u32) -> Part
     requires { ⌜ (v ≤ w) × (carry < w) ⌝ }
     ensures { λ r. ⌜ (r .flow ≡ partOf v w carry arrival) × (r .carry ≡ restOf v w carry arrival) ⌝ }
 {
@@ -36,7 +36,7 @@ fn landing_index(c: u32, from: Step, t: u32) -> usize
 }
 
 // One run: the parts of an entry's arrivals that go to its exit are added, remainder carried from step to step.
-pub fn add_pair(arrived: &[u32], v: u32, w: u32, t: u32, run: &mut [u32])
+fn add_pair(arrived: &[u32], v: u32, w: u32, t: u32, run: &mut [u32])
     requires { ⌜ PairRanges v w t (now arrived) (now run) ⌝ }
     ensures { λ _. ⌜ now (run .exit) ≡ added (length (now (run .entry))) t 1 (pairArrivals v w (now (arrived .entry))) (now (run .entry)) ⌝ }
 {

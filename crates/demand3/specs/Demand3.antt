@@ -10,7 +10,7 @@ use Rattle.segment.specs.declared.Segment.{Segment}
 use Rattle.metering.specs.Metering.{discharged}
 use Rattle.entries.specs.Entries.{entryProfile}
 use Rattle.dispersion.specs.Dispersion.{arrivalTimeOf}
-use Rattle.pair_parts.specs.Laws.{Shared}
+use Rattle.pair_parts.specs.PairParts.{Shared}
 use Rattle.exact.specs.Fraction.{Fraction, Within}
 use Rattle.exact.specs.Exact.{exactPair, exactExit}
 use Rattle.exact_dispersion.specs.ExactDispersion.{exactReported, EntryBalanced}

@@ -3,7 +3,7 @@
 ghost use mathlib.Core.Path.{_≡_};
 ghost use Prim.Native.Nat.{_≤_, _<_};
 ghost use lib.ListN.{length};
-ghost use Rattle.dispersion.specs.Dispersion.{divisorOf, arrivalTimeOf, stepOf, stateAfter, cycleWritten, work, cyclesWorked, lastPart};
+ghost use Rattle.dispersion.specs.Dispersion.{runningLimit, divisorOf, arrivalTimeOf, stepOf, stateAfter, cycleWritten, work, cyclesWorked, lastPart};
 
 // The numerator of the smoothing factor (N of the paper); the divisor stands under it.
 const SMOOTHING: u64 = 500000;
@@ -15,7 +15,7 @@ pub struct PlatoonState {
 }
 
 // The divisor of the smoothing factor (D of the paper).
-pub fn divisor(running: u32) -> u64
+fn divisor(running: u32) -> u64
     ensures { λ r. ⌜ r ≡ divisorOf running ⌝ }
 {
     657500 + 69 * (running as u64)
@@ -29,8 +29,8 @@ pub fn arrival_time(running: u32) -> u32
 }
 
 // One step.
-pub fn step(running: u32, discharge: u32, state: PlatoonState) -> PlatoonState
-    requires { ⌜ running ≤ 300000 ⌝ }
+fn step(running: u32, discharge: u32, state: PlatoonState) -> PlatoonState
+    requires { ⌜ running ≤ runningLimit ⌝ }
     requires { ⌜ state .carry < divisorOf running ⌝ }
     ensures { λ r. ⌜ r ≡ stepOf running discharge state ⌝ }
 {
@@ -45,13 +45,13 @@ pub fn step(running: u32, discharge: u32, state: PlatoonState) -> PlatoonState
 }
 
 // One cycle: the arrivals go to the front of the profile, whose numbers beyond stay.
-pub fn disperse(
+fn disperse(
     running: u32,
     discharge: &[u32],
     profile: &mut [u32],
     from: PlatoonState,
 ) -> PlatoonState
-    requires { ⌜ running ≤ 300000 ⌝ }
+    requires { ⌜ running ≤ runningLimit ⌝ }
     requires { ⌜ from .carry < divisorOf running ⌝ }
     requires { ⌜ length (now discharge) ≤ length (now profile) ⌝ }
     ensures { λ r. ⌜ r ≡ stateAfter running (now (discharge .entry)) from ⌝ }
@@ -77,7 +77,7 @@ pub fn alternate(
     second: &mut [u32],
     cycles: u32,
 ) -> PlatoonState
-    requires { ⌜ running ≤ 300000 ⌝ }
+    requires { ⌜ running ≤ runningLimit ⌝ }
     requires { ⌜ (length (now discharge) ≤ length (now first)) × (length (now discharge) ≤ length (now second)) ⌝ }
     ensures { λ r. ⌜ work r (now (first .exit)) (now (second .exit)) ≡ cyclesWorked running (now (discharge .entry)) cycles (now (first .entry)) (now (second .entry)) ⌝ }
 {

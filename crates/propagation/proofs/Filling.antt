@@ -15,10 +15,10 @@ use Rattle.entries.specs.Entries.{entryProfile}
 use Rattle.entries.specs.Laws.{entry-length, entry-le}
 use Rattle.dispersion.specs.Dispersion.{arrivalTimeOf, reported}
 use Rattle.dispersion.specs.Cycles.{reported-length, reported-le}
-use Rattle.arrivals.specs.Arrivals.{begun}
-use Rattle.arrivals.specs.Laws.{fourRuns, runs-le, begun-runs, added-runs, lands-le}
+use Rattle.arrivals.specs.Arrivals.{arrivalLimit, runLimit, begun, fourRuns}
+use Rattle.arrivals.specs.Laws.{runs-le, begun-runs, added-runs, lands-le}
 use Rattle.propagation.specs.Propagation.{Profiles, profiles, cycles, pairFlow, entryArrivals, pairOf, landsIn, flowAt, filledOf}
-use Rattle.propagation.specs.Steps.{spreadStep, EntryAsks, entryStep, Room, RowsFit, FillAsks}
+use Rattle.propagation.specs.Steps.{spreadStep, EntryAsks, entryStep, Room, RowsFit, FillAsks, room-kept}
 
 -- after some entries: the runs, a bound of their numbers, and the work profiles beyond the cycle
 pub record Filling (s : Segment) (p₀ p : Profiles) (b : ℕ) (r : ℕ → ℕ → ℕ) : Type 0 where
@@ -40,7 +40,7 @@ fill-begin {s} {rows} {o} h e n =
     }
 
 module _ {s : Segment} {p₀ p : Profiles} {b : ℕ} {r : ℕ → ℕ → ℕ} (h : Filling s p₀ p b r) (ranges : Ranges s) where
-  pub fill-asks : b ≤ 4000000000 → {e : Entry} (row : List ℕ) → validation.EntryRanges (s .cycle) e →
+  pub fill-asks : b ≤ runLimit → {e : Entry} (row : List ℕ) → validation.EntryRanges (s .cycle) e →
       ((j : ℕ) → getD row j 0 ≤ flowUnits (discharged (s .cycle) e)) → EntryAsks (s .running) (s .cycle) e row p
   fill-asks hb row er shares =
       record {
@@ -56,7 +56,7 @@ module _ {s : Segment} {p₀ p : Profiles} {b : ℕ} {r : ℕ → ℕ → ℕ} (
   -- one entry more: to each number what lands there is added
   pub fill-entry : {e : Entry} (row : List ℕ) → validation.EntryRanges (s .cycle) e → length row ≡ 4 →
       ((j : ℕ) → getD row j 0 ≤ flowUnits (discharged (s .cycle) e)) → {p′ : Profiles} → p′ ≡ entryStep (s .running) (s .cycle) e row p →
-      Room (s .cycle) p′ → Filling s p₀ p′ (b + 12000000) (λ j k. r j k + landsIn s e (getD row j 0) k)
+      Room (s .cycle) p′ → Filling s p₀ p′ (b + arrivalLimit) (λ j k. r j k + landsIn s e (getD row j 0) k)
   unfolding entryStep spreadStep landsIn pairOf entryArrivals
   fill-entry {e} row er four shares {p′} ep room =
       let c = s .cycle in
@@ -73,24 +73,20 @@ module _ {s : Segment} {p₀ p : Profiles} {b : ℕ} {r : ℕ → ℕ → ℕ} (
             omega (
               arith,
               h .small j k hj pos fits,
-              lands-le c (arrivalTimeOf (s .running)) k (getD row j 0) (flowUnits (discharged c e)) 12000000 (reported (s .running) q cycles) pos fits
-                  (omega (arith, n2)) (shares j) (reported-le (s .running) 12000000 q cycles (entry-le c e er)),
+              lands-le c (arrivalTimeOf (s .running)) k (getD row j 0) (flowUnits (discharged c e)) arrivalLimit (reported (s .running) q cycles) pos fits
+                  (omega (arith, n2)) (shares j) (reported-le (s .running) arrivalLimit q cycles (entry-le c e er)),
             );
         first = ap (λ (x : Profiles). drop c (x .first)) ep ∙ rw l (drop-at (reported (s .running) q 1) (drop c (p .first)) c n1) ∙ h .first;
         second = ap (λ (x : Profiles). drop c (x .second)) ep ∙ rw l (drop-at (reported (s .running) q cycles) (drop c (p .second)) c n2) ∙ h .second;
       }
-
-room-kept : {c : ℕ} {o f g o′ f′ g′ : List ℕ} → Room c (profiles o f g) → length o′ ≡ length o → length f′ ≡ length f → length g′ ≡ length g →
-    Room c (profiles o′ f′ g′)
-room-kept h x y z = record { output = omega (arith, h .output, x); first = omega (arith, h .first, y); second = omega (arith, h .second, z) }
 
 module _ {s : Segment} {p₀ : Profiles} {o f g : List ℕ} {b : ℕ} (ranges : Ranges s) where
   pub then-entry : {r : ℕ → ℕ → ℕ} → Filling s p₀ (profiles o f g) b r → {e : Entry} (row : List ℕ) → validation.EntryRanges (s .cycle) e → length row ≡ 4 →
       ((j : ℕ) → getD row j 0 ≤ flowUnits (discharged (s .cycle) e)) → {o′ f′ g′ : List ℕ} →
       profiles o′ f′ g′ ≡ entryStep (s .running) (s .cycle) e row (profiles o f g) →
       length o′ ≡ length o → length f′ ≡ length f → length g′ ≡ length g →
-      Filling s p₀ (profiles o′ f′ g′) (b + 12000000) (λ j k. r j k + landsIn s e (getD row j 0) k)
-  then-entry h row er four shares e x y z = fill-entry h ranges row er four shares e (room-kept (h .room) x y z)
+      Filling s p₀ (profiles o′ f′ g′) (b + arrivalLimit) (λ j k. r j k + landsIn s e (getD row j 0) k)
+  then-entry h row er four shares e x y z = fill-entry h ranges row er four shares e (room-kept (profiles o f g) (profiles _ _ _) (h .room) x y z)
 
   -- after the third: the work profiles hold the right entry's cycles
   pub then-last : {rows : List (List ℕ)} → RowsFit s rows →

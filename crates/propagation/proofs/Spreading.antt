@@ -13,16 +13,16 @@ use Rattle.metering.specs.Metering.{discharged}
 use Rattle.entries.specs.Entries.{entryProfile}
 use Rattle.entries.specs.Laws.{entry-length, entry-le}
 use Rattle.dispersion.specs.declared.PlatoonState.{PlatoonState}
-use Rattle.dispersion.specs.Dispersion.{Work, work, arrivalTimeOf, reported, cyclesWorked, lastPart}
+use Rattle.dispersion.specs.Dispersion.{runningLimit, Work, work, arrivalTimeOf, reported, cyclesWorked, lastPart}
 use Rattle.dispersion.specs.Arrivals.{arrival-time-nearest}
 use Rattle.dispersion.specs.Cycles.{last-part, two-left, reported-length, reported-le}
-use Rattle.arrivals.specs.Arrivals.{entryAdded}
+use Rattle.arrivals.specs.Arrivals.{arrivalLimit, entryAdded}
 use Rattle.arrivals.specs.Arrivals as arrivals
 use Rattle.propagation.specs.Propagation.{Profiles, profiles, cycles}
 use Rattle.propagation.specs.Steps.{SpreadAsks, spreadStep, EntryAsks, entryStep}
 
 -- the platoon arrival time is small
-pub time-small : (running : ℕ) → running ≤ 300000 → arrivalTimeOf running < 1000
+pub time-small : (running : ℕ) → running ≤ runningLimit → arrivalTimeOf running < 1000
 time-small running h = omega (arith, arrival-time-nearest running)
 
 module _ (running : ℕ) (q f g : List ℕ) {st : PlatoonState} {f′ g′ : List ℕ} (e : work st f′ g′ ≡ cyclesWorked running q cycles f g) where
@@ -71,7 +71,7 @@ entry-asks {running} {c} {e} {row} {p} h eu eq =
         room = omega (arith, n, h .room .output);
         shares = h .shares;
         time = time-small running (h .time);
-        arrivals = reported-le running 12000000 (entryProfile c e) cycles (entry-le c e (h .entry));
+        arrivals = reported-le running arrivalLimit (entryProfile c e) cycles (entry-le c e (h .entry));
         small = λ k hk. h .small k (rw n at hk);
       };
     })

@@ -10,7 +10,7 @@ use Rattle.metering.specs.Metering.{discharged}
 use Rattle.entries.specs.Entries.{entryProfile}
 use Rattle.dispersion.specs.Dispersion.{arrivalTimeOf, reported}
 use Rattle.pair_parts.specs.PairParts.{pairArrivals}
-use Rattle.arrivals.specs.Laws.{fourRuns}
+use Rattle.arrivals.specs.Arrivals.{fourRuns}
 
 -- the three lent profiles
 pub record Profiles : Type 0 where

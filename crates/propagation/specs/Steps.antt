@@ -1,5 +1,6 @@
 -- The filling entry by entry, and what each step asks of the numbers that it is lent.
 use Prim.Native.Nat.{ℕ, _+_, _*_, _≤_, _<_}
+use native.Mathlib.Omega.{arith}
 use mathlib.Core.Path.{_≡_}
 use mathlib.Core.List.{List, [], _++_}
 use lib.ListN.{length, drop, getD}
@@ -10,8 +11,8 @@ use Rattle.validation.specs.Ranges.{Ranges}
 use Rattle.validation.specs.Ranges as validation
 use Rattle.metering.specs.Metering.{discharged}
 use Rattle.entries.specs.Entries.{entryProfile}
-use Rattle.dispersion.specs.Dispersion.{arrivalTimeOf, reported}
-use Rattle.arrivals.specs.Arrivals.{entryAdded}
+use Rattle.dispersion.specs.Dispersion.{runningLimit, arrivalTimeOf, reported}
+use Rattle.arrivals.specs.Arrivals.{runLimit, entryAdded}
 use Rattle.arrivals.specs.Arrivals as arrivals
 use Rattle.propagation.specs.Propagation.{Profiles, profiles, cycles, pairFlow}
 
@@ -23,7 +24,7 @@ spreadStep running units row q p =
     (reported running q cycles ++ drop (length q) (p .second))
 
 pub record SpreadAsks (running units : ℕ) (row q : List ℕ) (p : Profiles) : Type 0 where
-  pub time : running ≤ 300000
+  pub time : running ≤ runningLimit
   pub first : length q ≤ length (p .first)
   pub second : length q ≤ length (p .second)
   pub adds : arrivals.EntryRanges units (arrivalTimeOf running) row (reported running q cycles) (p .output)
@@ -38,13 +39,18 @@ pub record Room (c : ℕ) (p : Profiles) : Type 0 where
   pub first : c ≤ length (p .first)
   pub second : c ≤ length (p .second)
 
+-- lending keeps it
+pub room-kept : {c : ℕ} (p p′ : Profiles) → Room c p → length (p′ .output) ≡ length (p .output) → length (p′ .first) ≡ length (p .first) →
+    length (p′ .second) ≡ length (p .second) → Room c p′
+room-kept p p′ r eo ef es = record { output = omega (arith, r .output); first = omega (arith, r .first); second = omega (arith, r .second) }
+
 pub record EntryAsks (running c : ℕ) (e : Entry) (row : List ℕ) (p : Profiles) : Type 0 where
-  pub time : running ≤ 300000
+  pub time : running ≤ runningLimit
   pub cycle : (30 ≤ c) × (c ≤ 240)
   pub entry : validation.EntryRanges c e
   pub shares : (j : ℕ) → getD row j 0 ≤ flowUnits (discharged c e)
   pub room : Room c p
-  pub small : (k : ℕ) → k < 4 * c → getD (p .output) k 0 ≤ 4000000000
+  pub small : (k : ℕ) → k < 4 * c → getD (p .output) k 0 ≤ runLimit
 
 -- four rows of four, each within its entry's flow units
 pub record RowsFit (s : Segment) (rows : List (List ℕ)) : Type 0 where

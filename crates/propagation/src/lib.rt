@@ -44,7 +44,7 @@ fn fill_entry(
     let o = entries::discharge_entry(cycle, e, &mut discharge[0..c]);
     spread(
         running,
-        1000 * o,
+        movements::flow_units(o),
         row,
         &discharge[0..c],
         output,

@@ -4,7 +4,7 @@ use mathlib.Core.List.{List}
 use Prim.Native.Nat.{ℕ}
 use Rattle.segment.specs.declared.Segment.{Segment}
 use Rattle.validation.specs.Ranges.{Ranges}
-use Rattle.arrivals.specs.Laws.{fourRuns}
+use Rattle.arrivals.specs.Arrivals.{fourRuns}
 use Rattle.propagation.specs.Propagation.{flowAt}
 
 pub record Filled (s : Segment) (rows : List (List ℕ)) (output : List ℕ) : Type 0 where

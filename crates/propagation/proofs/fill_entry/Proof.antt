@@ -1,8 +1,8 @@
 use native.Mathlib.Omega.{arith}
 use lib.ListN.{drop, replicate}
-use Prim.Native.Nat.{_-_, _*_}
-use mathlib.Core.Path.{ap}
-use Prim.Native.Nat.{ℕ}
+use Prim.Native.Nat.{_-_}
+use mathlib.Core.Path.{ap, _∙_}
+use Rattle.movements.specs.Movements.{flowUnits}
 use Rattle.entries.specs.Laws.{discharged-le}
 use Rattle.propagation.proofs.Spreading.{front, front-long, entry-asks, entry-done}
 use borrow.Author.Needs.{needs}
@@ -21,8 +21,8 @@ part-discharge-end c = search needs
 discharge-entry-requires : tie.Need-discharge-entry-requires
 discharge-entry-requires c κs = search needs
 
-mul-spread : tie.Need-mul-spread
-mul-spread c = omega (arith, discharged-le _ _ _ (c .before .before .before .before .before .before .pre .entry) (c .before .discharge-entry .ensures .0))
+flow-units-requires : tie.Need-flow-units-requires
+flow-units-requires c κs = omega (arith, discharged-le _ _ _ (c .before .before .before .before .before .before .pre .entry) (c .before .discharge-entry .ensures .0))
 
 sub-spread : tie.Need-sub-spread
 sub-spread c = search needs
@@ -31,10 +31,10 @@ part-spread-start : tie.Need-part-spread-start
 part-spread-start c = search needs
 
 part-spread-end : tie.Need-part-spread-end
-part-spread-end c = front-long _ _ (c .before .before .discharge-entry .last .1 .1 .0) (c .before .before .discharge-entry .ensures .1) (drop (c .before .before .before .before .before .before .before .args .cycle - 0) (replicate 240 0))
+part-spread-end c = front-long _ _ (c .before .before .before .discharge-entry .last .1 .1 .0) (c .before .before .before .discharge-entry .ensures .1) (drop (c .before .before .before .before .before .before .before .before .args .cycle - 0) (replicate 240 0))
 
 spread-requires : tie.Need-spread-requires
-spread-requires c κs = entry-asks (c .before .before .before .before .before .before .before .before .before .before .before .pre) (ap (λ (n : ℕ). 1000 * n) (c .before .before .before .before .before .before .discharge-entry .ensures .0)) (front _ _ _ (c .before .before .before .before .before .before .discharge-entry .ensures .1) _)
+spread-requires c κs = entry-asks (c .before .before .before .before .before .before .before .before .before .before .before .before .pre) (c .before .before .before .before .before .flow-units .ensures ∙ ap flowUnits (c .before .before .before .before .before .before .before .discharge-entry .ensures .0)) (front _ _ _ (c .before .before .before .before .before .before .before .discharge-entry .ensures .1) _)
 
 same-length : tie.Need-same-length
 same-length c = search needs
@@ -46,7 +46,7 @@ same-length-3 : tie.Need-same-length-3
 same-length-3 c = search needs
 
 returns : tie.Need-returns
-returns c = entry-done _ _ _ _ _ (ap (λ (n : ℕ). 1000 * n) (c .before .before .before .before .before .before .before .before .before .before .before .before .before .discharge-entry .ensures .0)) (front _ _ _ (c .before .before .before .before .before .before .before .before .before .before .before .before .before .discharge-entry .ensures .1) _) (c .before .before .before .before .before .before .spread .ensures)
+returns c = entry-done _ _ _ _ _ (c .before .before .before .before .before .before .before .before .before .before .before .before .flow-units .ensures ∙ ap flowUnits (c .before .before .before .before .before .before .before .before .before .before .before .before .before .before .discharge-entry .ensures .0)) (front _ _ _ (c .before .before .before .before .before .before .before .before .before .before .before .before .before .before .discharge-entry .ensures .1) _) (c .before .before .before .before .before .before .spread .ensures)
 
 pub fill-entry-spec : {M : Type 1} → statement M
 fill-entry-spec =
@@ -56,7 +56,7 @@ fill-entry-spec =
     part-discharge-start
     part-discharge-end
     discharge-entry-requires
-    mul-spread
+    flow-units-requires
     sub-spread
     part-spread-start
     part-spread-end
