@@ -4,7 +4,7 @@ use reference::archive::{add, EMPTY};
 use reference::arrivals::{blocked, PairShare};
 use reference::balance::{balance, check_volumes, Outcome, ROUND_LIMIT};
 use reference::discharge::{discharge, received_by};
-use reference::dispersion::{arrival_time, Street};
+use reference::dispersion::{arrival_time, Link};
 use reference::greens::{Green, Post, Step};
 use reference::metering::capacity;
 use reference::record::{Seeds, DEFAULT_SEEDS};
@@ -86,9 +86,9 @@ fn discharge_of_the_example() {
 
 #[test]
 fn first_two_arrivals() {
-    let mut street = Street::empty(40000);
-    assert_eq!((street.step(1_800_000), street.carry), (263_350, 1_375_000));
-    assert_eq!((street.step(1_800_000), street.carry), (488_171, 607_500));
+    let mut link = Link::empty(40000);
+    assert_eq!((link.step(1_800_000), link.carry), (263_350, 1_375_000));
+    assert_eq!((link.step(1_800_000), link.carry), (488_171, 607_500));
     let mut card = with_entry(2);
     put(&mut card, 40, 600);
     let (mut output, mut first, mut second) = ([0; 240], [0; 60], [0; 60]);
