@@ -4,7 +4,7 @@ use reference::discharge::{cycle_units, discharge};
 use reference::greens::Step;
 use reference::random::Random;
 use reference::record::decode;
-use reference::samples::{busy, random_card};
+use reference::samples::{busy, random_record};
 use reference::vectors::discharge::refused_by_volume;
 use reference::working::work;
 
@@ -14,10 +14,10 @@ fn profiles() {
     let mut random = Random::new(11);
     for _ in 0..2000 {
         let cycle = random.with_ends(30, 240);
-        let card = random_card(&mut random, cycle);
-        let record = decode(&card).unwrap();
+        let bytes = random_record(&mut random, cycle);
+        let record = decode(&bytes).unwrap();
         let mut profile = vec![5; 3 * cycle as usize + 2];
-        let volumes = discharge(&card, &mut profile).unwrap();
+        let volumes = discharge(&bytes, &mut profile).unwrap();
         for (i, part) in profile.chunks_exact(cycle as usize).take(3).enumerate() {
             let total: u64 = part.iter().map(|&q| u64::from(q)).sum();
             assert_eq!(total, cycle_units(volumes[i], cycle));
@@ -41,9 +41,9 @@ fn short_profile() {
 /// What the working refuses with 13, 14 and 15 discharges all the same.
 #[test]
 fn refused_by_the_working() {
-    let numbers = refused_by_volume().map(|card| {
-        assert!(discharge(&card, &mut [0; 90]).is_ok());
-        let result = work(&card, &mut [0; 120], &mut [0; 30], &mut [0; 30]);
+    let numbers = refused_by_volume().map(|record| {
+        assert!(discharge(&record, &mut [0; 90]).is_ok());
+        let result = work(&record, &mut [0; 120], &mut [0; 30], &mut [0; 30]);
         result.unwrap_err().number
     });
     assert_eq!(numbers, [13, 13, 14, 14, 15, 15]);

@@ -41,9 +41,9 @@ impl<'a> Reader<'a> {
 
 fn discharge_agrees(body: &mut Reader) -> bool {
     let length = body.number(2) as usize;
-    let card = body.bytes(length);
+    let record = body.bytes(length);
     let mut profile = profile_before(3_000_000_000, body.number(2) as usize);
-    let result = discharge(card, &mut profile);
+    let result = discharge(record, &mut profile);
     body.word() == result.err().unwrap_or(0)
         && body.words(3) == result.unwrap_or([0; 3])
         && body.words(profile.len()) == profile
@@ -79,11 +79,11 @@ fn find_agrees(body: &mut Reader, bytes: &[u8]) -> bool {
 
 fn add_agrees(body: &mut Reader, bytes: &[u8]) -> bool {
     let length = body.count();
-    let card = body.bytes(length);
+    let record = body.bytes(length);
     let length = body.count();
     let title = body.bytes(length);
     let mut buffer = buffer_before(body.count());
-    let result = archive::add(bytes, card, title, &mut buffer);
+    let result = archive::add(bytes, record, title, &mut buffer);
     body.word() == result.err().unwrap_or(0)
         && body.count() == result.unwrap_or(0)
         && body.bytes(buffer.len()) == buffer
@@ -123,11 +123,11 @@ fn balance_agrees(body: &mut Reader) -> bool {
 
 fn working_agrees(body: &mut Reader) -> bool {
     let length = body.number(2) as usize;
-    let card = body.bytes(length);
+    let record = body.bytes(length);
     let mut profiles = [3_000_000_000, 3_100_000_000, 3_200_000_000]
         .map(|start| profile_before(start, body.count()));
     let [output, first, second] = &mut profiles;
-    let result = work(card, output, first, second);
+    let result = work(record, output, first, second);
     let mut numbers = vec![0; 31];
     match result {
         Err(refused) => {

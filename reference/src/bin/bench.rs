@@ -10,7 +10,7 @@ use std::time::{Duration, Instant};
 
 use reference::archive::add;
 use reference::random::Random;
-use reference::samples::{busy, put_u32, random_card, Card};
+use reference::samples::{busy, put_u32, random_record, RecordBytes};
 use reference::working::work;
 
 const RECORDS: usize = 512;
@@ -27,9 +27,9 @@ enum Kind {
     Refused,
 }
 
-fn fits(kind: Kind, card: &Card) -> bool {
+fn fits(kind: Kind, record: &RecordBytes) -> bool {
     let (mut output, mut first, mut second) = (vec![0; 960], vec![0; 240], vec![0; 240]);
-    let result = work(card, &mut output, &mut first, &mut second);
+    let result = work(record, &mut output, &mut first, &mut second);
     match (kind, result) {
         (Kind::Few, Ok(working)) => working.rounds <= 10,
         (Kind::Many, Ok(working)) => working.rounds > 30,
@@ -38,14 +38,14 @@ fn fits(kind: Kind, card: &Card) -> bool {
     }
 }
 
-fn record(random: &mut Random, kind: Kind, cycle: u32) -> Card {
+fn record(random: &mut Random, kind: Kind, cycle: u32) -> RecordBytes {
     if let Kind::Refused = kind {
         return busy(241);
     }
     loop {
-        let card = random_card(random, cycle);
-        if fits(kind, &card) {
-            return card;
+        let record = random_record(random, cycle);
+        if fits(kind, &record) {
+            return record;
         }
     }
 }
@@ -54,12 +54,12 @@ fn archive(kind: Kind, cycle: u32, records: usize) -> Vec<u8> {
     let mut random = Random::new(SEED);
     let mut archive = vec![0, 0, 0, 0, 68, 82];
     // a record that takes many rounds is rare, so a few are used again and again
-    let kept: Vec<Card> = (0..16).map(|_| record(&mut random, kind, cycle)).collect();
+    let kept: Vec<RecordBytes> = (0..16).map(|_| record(&mut random, kind, cycle)).collect();
     for n in 0..records {
-        let mut card = kept[n % kept.len()];
-        put_u32(&mut card, 0, n as u32 + 1);
+        let mut record = kept[n % kept.len()];
+        put_u32(&mut record, 0, n as u32 + 1);
         let mut buffer = vec![0; archive.len() + 71];
-        let length = add(&archive, &card, b"", &mut buffer).unwrap_or_else(|_| panic!("adding"));
+        let length = add(&archive, &record, b"", &mut buffer).unwrap_or_else(|_| panic!("adding"));
         buffer.truncate(length);
         archive = buffer;
     }

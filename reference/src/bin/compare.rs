@@ -8,7 +8,7 @@ use std::thread;
 
 use reference::random::Random;
 use reference::report::{report, INPUT_MOST};
-use reference::samples::{busy, put_u16, put_u32, quiet, random_card, Card};
+use reference::samples::{busy, put_u16, put_u32, quiet, random_record, RecordBytes};
 use reference::vectors::archive::write;
 
 const SEED: u64 = 0xc033_9a4e;
@@ -63,24 +63,24 @@ fn title(random: &mut Random) -> Vec<u8> {
     (0..length).map(|_| random.between(32, 126) as u8).collect()
 }
 
-fn card(random: &mut Random) -> Card {
+fn record(random: &mut Random) -> RecordBytes {
     match random.below(8) {
         0 => busy(random.between(30, 240)),
         1 => quiet(random.between(30, 240)),
         2 => {
-            let mut card = busy(60);
-            put_u16(&mut card, 4, random.between(0, 60000));
-            card
+            let mut record = busy(60);
+            put_u16(&mut record, 4, random.between(0, 60000));
+            record
         }
         3 => {
-            let mut card = busy(60);
+            let mut record = busy(60);
             let at = random.between(4, 67) as usize;
-            card[at] = random.below(256) as u8;
-            card
+            record[at] = random.below(256) as u8;
+            record
         }
         _ => {
             let cycle = random.with_ends(30, 240);
-            random_card(random, cycle)
+            random_record(random, cycle)
         }
     }
 }
@@ -88,12 +88,12 @@ fn card(random: &mut Random) -> Card {
 /// Records with rising numbers, and one archive in four damaged somewhere.
 fn archive(random: &mut Random, records: u32) -> Vec<u8> {
     let mut number = 0;
-    let filed: Vec<(Card, Vec<u8>)> = (0..records)
+    let filed: Vec<(RecordBytes, Vec<u8>)> = (0..records)
         .map(|_| {
             number += random.between(1, 9);
-            let mut card = card(random);
-            put_u32(&mut card, 0, number);
-            (card, title(random))
+            let mut record = record(random);
+            put_u32(&mut record, 0, number);
+            (record, title(random))
         })
         .collect();
     let mut bytes = write(&filed);

@@ -4,7 +4,7 @@ use super::{buffer_before, Body, File};
 use crate::archive::{add, find, read, title, COUNT_MOST, EMPTY, MARK, TITLE_MOST};
 use crate::random::Random;
 use crate::record::RECORD_BYTES;
-use crate::samples::{put_u32, Card};
+use crate::samples::{put_u32, RecordBytes};
 
 const SEED: u64 = 0x0101_a2c4;
 
@@ -13,7 +13,7 @@ const FIND: u8 = 2;
 const ADD: u8 = 3;
 
 /// A record with its title.
-type Filed = (Card, Vec<u8>);
+type Filed = (RecordBytes, Vec<u8>);
 
 pub fn file() -> File {
     let mut file = File::default();
@@ -36,9 +36,9 @@ pub fn file() -> File {
 pub fn write(filed: &[Filed]) -> Vec<u8> {
     let mut body = Vec::new();
     let mut places = Vec::new();
-    for (card, title) in filed {
+    for (record, title) in filed {
         places.extend((body.len() as u16).to_le_bytes());
-        body.extend(card);
+        body.extend(record);
         body.push(title.len() as u8);
         body.extend(title);
     }
@@ -51,11 +51,11 @@ fn end(body: Vec<u8>, places: &[u8], count: usize) -> Vec<u8> {
     [&body, places, &(count as u16).to_le_bytes(), &own, &MARK].concat()
 }
 
-fn card(random: &mut Random, number: u32) -> Card {
-    let mut card = [0; RECORD_BYTES];
-    card.copy_from_slice(&random.bytes(RECORD_BYTES));
-    put_u32(&mut card, 0, number);
-    card
+fn record(random: &mut Random, number: u32) -> RecordBytes {
+    let mut record = [0; RECORD_BYTES];
+    record.copy_from_slice(&random.bytes(RECORD_BYTES));
+    put_u32(&mut record, 0, number);
+    record
 }
 
 fn good_title(random: &mut Random, length: usize) -> Vec<u8> {
@@ -68,7 +68,7 @@ fn good_title(random: &mut Random, length: usize) -> Vec<u8> {
 fn filed(random: &mut Random, numbers: &[u32]) -> Vec<Filed> {
     let one = |&number: &u32| {
         let length = random.below(7) as usize;
-        (card(random, number), good_title(random, length))
+        (record(random, number), good_title(random, length))
     };
     numbers.iter().map(one).collect()
 }
@@ -101,12 +101,12 @@ fn add_read(file: &mut File, archive: &[u8]) {
     file.push(format!("read {number}"), body);
 }
 
-fn add_find(file: &mut File, archive: &[u8], card_number: u32) {
+fn add_find(file: &mut File, archive: &[u8], record_number: u32) {
     let mut body = start(FIND, archive);
-    let result = find(archive, card_number);
+    let result = find(archive, record_number);
     let number = result.err().unwrap_or(0);
-    let title = title(archive, card_number);
-    body.word(card_number);
+    let title = title(archive, record_number);
+    body.word(record_number);
     body.word(number);
     body.count(result.unwrap_or(0));
     body.count(title.len());
@@ -114,13 +114,13 @@ fn add_find(file: &mut File, archive: &[u8], card_number: u32) {
     file.push(format!("find {number}"), body);
 }
 
-fn add_add(file: &mut File, archive: &[u8], card: &[u8], title: &[u8], room: usize) {
+fn add_add(file: &mut File, archive: &[u8], record: &[u8], title: &[u8], room: usize) {
     let mut body = start(ADD, archive);
     let mut buffer = buffer_before(room);
-    let result = add(archive, card, title, &mut buffer);
+    let result = add(archive, record, title, &mut buffer);
     let number = result.err().unwrap_or(0);
-    body.count(card.len());
-    body.bytes(card);
+    body.count(record.len());
+    body.bytes(record);
     body.count(title.len());
     body.bytes(title);
     body.count(room);
@@ -172,7 +172,7 @@ fn add_titles(file: &mut File, random: &mut Random) {
                 let mut records = filed(random, &[2, 3]);
                 records[at % 2].1 = title.clone();
                 add_find(file, &write(&records), 2 + (at as u32) % 2);
-                let new = card(random, 1);
+                let new = record(random, 1);
                 add_add(file, &EMPTY, &new, &title, 77 + length);
             }
         }
@@ -182,11 +182,11 @@ fn add_titles(file: &mut File, random: &mut Random) {
 /// Archives of 511 and 512 records.
 fn add_full(file: &mut File, random: &mut Random) {
     let untitled: Vec<Filed> = (1..=COUNT_MOST as u32)
-        .map(|n| (card(random, 3 * n), Vec::new()))
+        .map(|n| (record(random, 3 * n), Vec::new()))
         .collect();
     let titled: Vec<Filed> = untitled
         .iter()
-        .map(|(card, _)| (*card, good_title(random, TITLE_MOST)))
+        .map(|(record, _)| (*record, good_title(random, TITLE_MOST)))
         .collect();
     let full = write(&untitled);
     add_read(file, &write(&titled));
@@ -194,7 +194,7 @@ fn add_full(file: &mut File, random: &mut Random) {
     for number in [3, 768, 1536, 1537] {
         add_find(file, &full, number);
     }
-    let new = card(random, 1537);
+    let new = record(random, 1537);
     add_add(file, &full, &new, b"", full.len() + 71);
     add_add(file, &full, &new, b"", full.len() + 70);
     add_add(file, &full, &untitled[0].0, b"", 0);
@@ -363,7 +363,7 @@ fn add_additions(file: &mut File, random: &mut Random) {
     let mut records = Vec::new();
     for n in 0..8 {
         let old = write(&records);
-        let new = (card(random, 5 * n + 1), good_title(random, 5 * n as usize));
+        let new = (record(random, 5 * n + 1), good_title(random, 5 * n as usize));
         let length = old.len() + 71 + new.1.len();
         for room in [length, length - 1, length + 1, length + 60, 0] {
             add_add(file, &old, &new.0, &new.1, room);
@@ -372,16 +372,16 @@ fn add_additions(file: &mut File, random: &mut Random) {
     }
     let old = write(&records);
     for number in [0, 1, 35, 36, 37, 1 << 24, u32::MAX] {
-        add_add(file, &old, &card(random, number), b"number", old.len() + 77);
+        add_add(file, &old, &record(random, number), b"number", old.len() + 77);
     }
     for length in 0..=TITLE_MOST + 2 {
         let title = good_title(random, length);
-        add_add(file, &EMPTY, &card(random, 9), &title, 77 + length);
+        add_add(file, &EMPTY, &record(random, 9), &title, 77 + length);
     }
-    add_add(file, &EMPTY, &card(random, 0), b"", 77);
-    add_add(file, &EMPTY, &card(random, u32::MAX), b"", 77);
+    add_add(file, &EMPTY, &record(random, 0), b"", 77);
+    add_add(file, &EMPTY, &record(random, u32::MAX), b"", 77);
     let last = write(&filed(random, &[u32::MAX]));
-    add_add(file, &last, &card(random, u32::MAX), b"", 300);
+    add_add(file, &last, &record(random, u32::MAX), b"", 300);
 }
 
 /// Refusals of adding alone and two at once, also after a refused archive.
@@ -398,18 +398,18 @@ fn add_refused_additions(file: &mut File, random: &mut Random) {
         &number,
         &places,
     ];
-    let new = card(random, 7);
-    let low = card(random, 6);
+    let new = record(random, 7);
+    let low = record(random, 6);
     let long = [&new[..], &[0]].concat();
     let titles = [good_title(random, 3), vec![b' '; 41], vec![31]];
     for archive in archives {
-        for card in [&new[..], &new[..67], &long, &[], &low] {
+        for record in [&new[..], &new[..67], &long, &[], &low] {
             for title in &titles {
                 for room in [
                     archive.len() + 71 + title.len(),
                     archive.len() + 70 + title.len(),
                 ] {
-                    add_add(file, archive, card, title, room);
+                    add_add(file, archive, record, title, room);
                 }
             }
         }

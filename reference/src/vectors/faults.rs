@@ -5,7 +5,7 @@ use crate::record::{
     ON_GREEN_IN, RUNNING_TIME_AT, SATURATION_IN, SEEDS_AT, VOLUME_IN,
 };
 use crate::refusal::{self, Refusal};
-use crate::samples::Card;
+use crate::samples::RecordBytes;
 
 /// Bytes to write at a place, and the refusal they cause alone.
 #[derive(Clone, Debug)]
@@ -24,8 +24,8 @@ impl Fault {
         }
     }
 
-    pub fn apply(&self, card: &mut Card) {
-        card[self.at..self.at + self.bytes.len()].copy_from_slice(&self.bytes);
+    pub fn apply(&self, record: &mut RecordBytes) {
+        record[self.at..self.at + self.bytes.len()].copy_from_slice(&self.bytes);
     }
 }
 

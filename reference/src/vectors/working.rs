@@ -9,7 +9,7 @@ use crate::random::Random;
 use crate::record::{ACCESS_AT, CYCLE_LEAST, CYCLE_MOST, HEADWAY_AT, RUNNING_TIME_AT};
 use crate::samples::{
     busy, put_downstream, put_entry, put_exits, put_green, put_seeds, put_u16, put_u32, quiet,
-    random_card, Card,
+    random_record, RecordBytes,
 };
 use crate::working::{work, Working};
 
@@ -52,18 +52,18 @@ fn exact(cycle: u32) -> [usize; 3] {
 }
 
 /// A case; `off` is added to the last number of the output.
-fn case(card: &[u8], lengths: [usize; 3], off: u32) -> (u32, Body) {
+fn case(record: &[u8], lengths: [usize; 3], off: u32) -> (u32, Body) {
     let mut output = profile_before(OUTPUT_BEFORE, lengths[0]);
     let mut first = profile_before(FIRST_BEFORE, lengths[1]);
     let mut second = profile_before(SECOND_BEFORE, lengths[2]);
-    let result = work(card, &mut output, &mut first, &mut second);
+    let result = work(record, &mut output, &mut first, &mut second);
     let number = result.err().map_or(0, |refused| refused.number);
     if let Some(last) = output.last_mut() {
         *last += off;
     }
     let mut body = Body::default();
-    body.short(card.len());
-    body.bytes(card);
+    body.short(record.len());
+    body.bytes(record);
     lengths.iter().for_each(|&length| body.count(length));
     body.word(number);
     body.bits(result.map_or_else(|refused| refused.last_sum, |working| working.last_sum));
@@ -87,8 +87,8 @@ fn put_working(body: &mut Body, working: &Working) {
     body.word(working.blocked);
 }
 
-fn add(file: &mut File, card: &[u8], lengths: [usize; 3]) {
-    let (number, body) = case(card, lengths, 0);
+fn add(file: &mut File, record: &[u8], lengths: [usize; 3]) {
+    let (number, body) = case(record, lengths, 0);
     file.push(format!("{number}"), body);
 }
 
@@ -124,16 +124,16 @@ fn add_lengths(file: &mut File) {
 /// 13, 14 and 15, and 16 before each.
 fn add_refused_by_volume(file: &mut File) {
     let [output, first, second] = exact(CYCLE_LEAST);
-    for card in refused_by_volume().iter().chain(&more_without_volume()) {
-        add(file, card, [output, first, second]);
-        add(file, card, [output - 1, first, second]);
-        add(file, card, [output, first - 1, second]);
-        add(file, card, [output, first, second - 1]);
+    for record in refused_by_volume().iter().chain(&more_without_volume()) {
+        add(file, record, [output, first, second]);
+        add(file, record, [output - 1, first, second]);
+        add(file, record, [output, first - 1, second]);
+        add(file, record, [output, first, second - 1]);
     }
 }
 
 /// No discharge by no saturation and by no green, though volumes are given.
-fn more_without_volume() -> [Card; 3] {
+fn more_without_volume() -> [RecordBytes; 3] {
     let mut no_saturation = busy(CYCLE_LEAST);
     let mut no_green = busy(CYCLE_LEAST);
     let mut too_little = busy(CYCLE_LEAST);
@@ -142,9 +142,9 @@ fn more_without_volume() -> [Card; 3] {
         put_entry(&mut no_green, i, [500, 1800, 3, 0, 500]);
         put_entry(&mut too_little, i, [500, 29, 3, 1, 500]);
     }
-    [no_saturation, no_green, too_little].map(|mut card| {
-        put_u16(&mut card, ACCESS_AT, 0);
-        card
+    [no_saturation, no_green, too_little].map(|mut record| {
+        put_u16(&mut record, ACCESS_AT, 0);
+        record
     })
 }
 
@@ -152,19 +152,19 @@ fn more_without_volume() -> [Card; 3] {
 fn add_faults(file: &mut File) {
     let faults = faults(CYCLE_LEAST);
     for fault in faults.iter().step_by(3) {
-        let mut card = busy(CYCLE_LEAST);
-        fault.apply(&mut card);
-        add(file, &card, exact(CYCLE_LEAST));
+        let mut record = busy(CYCLE_LEAST);
+        fault.apply(&mut record);
+        add(file, &record, exact(CYCLE_LEAST));
     }
     for fault in faults.iter().step_by(7) {
-        let mut card = quiet(CYCLE_LEAST);
-        fault.apply(&mut card);
-        add(file, &card, [120, 29, 30]);
+        let mut record = quiet(CYCLE_LEAST);
+        fault.apply(&mut record);
+        add(file, &record, [120, 29, 30]);
     }
     for pair in fault_pairs(CYCLE_LEAST).iter().step_by(3) {
-        let mut card = busy(CYCLE_LEAST);
-        pair.iter().for_each(|fault| fault.apply(&mut card));
-        add(file, &card, [119, 30, 31]);
+        let mut record = busy(CYCLE_LEAST);
+        pair.iter().for_each(|fault| fault.apply(&mut record));
+        add(file, &record, [119, 30, 31]);
     }
 }
 
@@ -176,9 +176,9 @@ fn add_figures(file: &mut File) {
     put_downstream(&mut example, [(0, 0), (0, 30), (0, 0)]);
     add(file, &example, exact(60));
     for running_time in [1000, 40098, 40099, 57499, 57500, 57501, 299_999, 300_000] {
-        let mut card = busy(CYCLE_LEAST);
-        put_u32(&mut card, RUNNING_TIME_AT, running_time);
-        add(file, &card, exact(CYCLE_LEAST));
+        let mut record = busy(CYCLE_LEAST);
+        put_u32(&mut record, RUNNING_TIME_AT, running_time);
+        add(file, &record, exact(CYCLE_LEAST));
     }
     for (volume, headway) in [
         (360, 10000),
@@ -188,11 +188,11 @@ fn add_figures(file: &mut File) {
         (878, 4100),
         (879, 4100),
     ] {
-        let mut card = quiet(CYCLE_LEAST);
-        put_u16(&mut card, HEADWAY_AT, headway);
-        put_u16(&mut card, ACCESS_AT, volume);
-        put_exits(&mut card, [0, 1, 0, 0]);
-        add(file, &card, exact(CYCLE_LEAST));
+        let mut record = quiet(CYCLE_LEAST);
+        put_u16(&mut record, HEADWAY_AT, headway);
+        put_u16(&mut record, ACCESS_AT, volume);
+        put_exits(&mut record, [0, 1, 0, 0]);
+        add(file, &record, exact(CYCLE_LEAST));
     }
 }
 
@@ -200,10 +200,10 @@ fn add_figures(file: &mut File) {
 fn add_range_ends(file: &mut File) {
     let cycle = CYCLE_LEAST;
     let mut change = |at: usize, value: u32, wide: bool| {
-        let mut card = busy(cycle);
+        let mut record = busy(cycle);
         let put = if wide { put_u32 } else { put_u16 };
-        put(&mut card, at, value);
-        add(file, &card, exact(cycle));
+        put(&mut record, at, value);
+        add(file, &record, exact(cycle));
     };
     for (at, most) in volume_fields() {
         change(at, 0, false);
@@ -226,36 +226,36 @@ fn add_range_ends(file: &mut File) {
 fn add_extremes(file: &mut File) {
     for cycle in [CYCLE_LEAST, 97, CYCLE_MOST] {
         for running_time in [1000, 300_000] {
-            let mut card = quiet(cycle);
-            put_u32(&mut card, RUNNING_TIME_AT, running_time);
-            put_u16(&mut card, HEADWAY_AT, 10000);
+            let mut record = quiet(cycle);
+            put_u32(&mut record, RUNNING_TIME_AT, running_time);
+            put_u16(&mut record, HEADWAY_AT, 10000);
             for i in 0..3 {
                 put_entry(
-                    &mut card,
+                    &mut record,
                     i,
                     [6000, 12000, cycle - 1, cycle, 500 * i as u32],
                 );
             }
-            put_u16(&mut card, ACCESS_AT, 6000);
-            put_exits(&mut card, [12000; 4]);
+            put_u16(&mut record, ACCESS_AT, 6000);
+            put_exits(&mut record, [12000; 4]);
             put_downstream(
-                &mut card,
+                &mut record,
                 [(cycle - 1, cycle), (cycle - 1, 1), (cycle / 2, cycle)],
             );
-            put_seeds(&mut card, &[[25; 4]; 4]);
-            add(file, &card, exact(cycle));
-            put_exits(&mut card, [0, 12000, 0, 0]);
-            add(file, &card, exact(cycle));
-            put_entry(&mut card, 2, [6000, 12000, cycle / 2, cycle / 2, 0]);
-            add(file, &card, exact(cycle));
+            put_seeds(&mut record, &[[25; 4]; 4]);
+            add(file, &record, exact(cycle));
+            put_exits(&mut record, [0, 12000, 0, 0]);
+            add(file, &record, exact(cycle));
+            put_entry(&mut record, 2, [6000, 12000, cycle / 2, cycle / 2, 0]);
+            add(file, &record, exact(cycle));
         }
     }
     for idle in 0..7 {
-        let mut card = busy(47);
+        let mut record = busy(47);
         for i in (0..3).filter(|i| idle >> i & 1 == 1) {
-            put_entry(&mut card, i, [0, 1800, 40, 20, 700]);
+            put_entry(&mut record, i, [0, 1800, 40, 20, 700]);
         }
-        add(file, &card, exact(47));
+        add(file, &record, exact(47));
     }
 }
 
@@ -263,23 +263,23 @@ fn add_extremes(file: &mut File) {
 fn add_balances(file: &mut File) {
     let by_rounds = BY_ROUNDS.iter().map(|(_, inputs)| inputs);
     for inputs in by_rounds.chain(BY_STOP.iter().step_by(3).map(|(_, _, inputs)| inputs)) {
-        add(file, &balance_card(inputs), exact(CYCLE_LEAST));
+        add(file, &balance_record(inputs), exact(CYCLE_LEAST));
     }
 }
 
-fn balance_card((discharge, exits, seeds): &Inputs) -> Card {
-    let mut card = quiet(CYCLE_LEAST);
+fn balance_record((discharge, exits, seeds): &Inputs) -> RecordBytes {
+    let mut record = quiet(CYCLE_LEAST);
     for i in 0..3u32 {
         put_entry(
-            &mut card,
+            &mut record,
             i as usize,
             [discharge[i as usize], 12000, 7 * i, 15 + i, 300 * i],
         );
     }
-    put_u16(&mut card, ACCESS_AT, discharge[3]);
-    put_exits(&mut card, *exits);
-    put_seeds(&mut card, seeds);
-    card
+    put_u16(&mut record, ACCESS_AT, discharge[3]);
+    put_exits(&mut record, *exits);
+    put_seeds(&mut record, seeds);
+    record
 }
 
 /// Random records, one in four at 240 steps and 300 s, some with longer profiles.
@@ -292,15 +292,15 @@ fn add_random(file: &mut File) {
             2 => random.between(91, 239),
             _ => random.between(30, 90),
         };
-        let mut card = random_card(&mut random, cycle);
+        let mut record = random_record(&mut random, cycle);
         if n % 4 == 0 {
-            put_u32(&mut card, RUNNING_TIME_AT, 300_000);
+            put_u32(&mut record, RUNNING_TIME_AT, 300_000);
         }
         let mut lengths = exact(cycle);
         if n % 5 == 0 {
             lengths = lengths.map(|length| length + random.below(9) as usize);
         }
-        add(file, &card, lengths);
+        add(file, &record, lengths);
     }
 }
 
@@ -309,8 +309,8 @@ fn add_short_cycles(file: &mut File) {
     let mut random = Random::new(SEED + 2);
     for _ in 0..1460 {
         let cycle = random.between(CYCLE_LEAST, 44);
-        let card = random_card(&mut random, cycle);
-        add(file, &card, exact(cycle));
+        let record = random_record(&mut random, cycle);
+        add(file, &record, exact(cycle));
     }
 }
 
@@ -319,8 +319,8 @@ fn add_long(file: &mut File) {
     let mut random = Random::new(SEED + 1);
     let mut kept = 0;
     while kept < 30 {
-        let mut card = random_card(&mut random, CYCLE_MOST);
-        put_u32(&mut card, RUNNING_TIME_AT, 300_000);
+        let mut record = random_record(&mut random, CYCLE_MOST);
+        put_u32(&mut record, RUNNING_TIME_AT, 300_000);
         for i in 0..3 {
             let start = random.between(120, 239);
             let length = random.between(CYCLE_MOST - start + 1, CYCLE_MOST);
@@ -332,9 +332,9 @@ fn add_long(file: &mut File) {
                 length,
                 random.below(1001),
             ];
-            put_entry(&mut card, i, entry);
+            put_entry(&mut record, i, entry);
         }
-        let (number, body) = case(&card, exact(CYCLE_MOST), 0);
+        let (number, body) = case(&record, exact(CYCLE_MOST), 0);
         if number == 0 {
             file.push("0".into(), body);
             kept += 1;
