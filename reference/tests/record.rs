@@ -27,8 +27,7 @@ fn lengths() {
 fn each_fault_alone() {
     for cycle in [30, 77, 240] {
         for fault in faults(cycle) {
-            let mut record = busy(cycle);
-            fault.apply(&mut record);
+            let record = fault.applied(busy(cycle));
             assert_eq!(decode(&record), Err(fault.number), "{fault:?}");
         }
     }
@@ -37,8 +36,7 @@ fn each_fault_alone() {
 #[test]
 fn the_lower_of_two() {
     for pair in fault_pairs(30) {
-        let mut record = busy(30);
-        pair.iter().for_each(|fault| fault.apply(&mut record));
+        let record = pair[1].applied(pair[0].applied(busy(30)));
         assert_eq!(
             decode(&record),
             Err(pair[0].number.min(pair[1].number)),

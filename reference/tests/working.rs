@@ -35,8 +35,7 @@ fn worked(record: &[u8], cycle: usize) -> (Working, Vec<u32>) {
 #[test]
 fn refusals_leave_the_profiles() {
     for fault in faults(30) {
-        let mut record = busy(30);
-        fault.apply(&mut record);
+        let record = fault.applied(busy(30));
         assert_eq!(number(&record, [120, 30, 30]), fault.number);
         assert_eq!(number(&record, [0, 0, 0]), fault.number);
     }

@@ -1,12 +1,16 @@
 //! Vectors of the discharge call.
 
-use super::faults::{fault_pairs, faults, green_fields, volume_fields};
-use super::{profile_before, Body, File, OUTPUT_BEFORE};
+use super::faults::{fault_pairs, faults, Fault};
+use super::range_ends::{
+    headway_ends, number_ends, running_time_ends, seed_ends, volume_and_green_ends,
+};
+use super::{product, profile_before, Body, File, OUTPUT_BEFORE};
 use crate::discharge::discharge;
 use crate::random::Random;
-use crate::record::{ACCESS_AT, CYCLE_LEAST, CYCLE_MOST, HEADWAY_AT, RUNNING_TIME_AT};
+use crate::record::{ACCESS_AT, CYCLE_LEAST, CYCLE_MOST};
+use crate::refusal::GREEN;
 use crate::samples::{
-    busy, put_entry, put_exits, put_green, put_seeds, put_u16, put_u32, quiet, random_record, RecordBytes,
+    busy, put_entry, put_exits, put_seeds, put_u16, quiet, random_record, RecordBytes,
 };
 
 const SEED: u64 = 0x0101_d15c;
@@ -15,6 +19,7 @@ pub fn file() -> File {
     let mut file = File::default();
     add_lengths(&mut file);
     add_range_ends(&mut file);
+    add_extremes(&mut file);
     add_greens(&mut file);
     add_refused_by_volume(&mut file);
     add_faults(&mut file);
@@ -51,70 +56,57 @@ fn add_full(file: &mut File, cycle: u32, record: &RecordBytes) {
     add(file, record, 3 * cycle as usize);
 }
 
-/// Lengths of the record and of the profile.
+/// Lengths of the profile, then of the record.
 fn add_lengths(file: &mut File) {
     for cycle in [CYCLE_LEAST, 31, 60, CYCLE_MOST] {
-        let record = busy(cycle);
-        let exact = 3 * cycle as usize;
-        for length in [0, 1, exact - 1, exact, exact + 1, exact + 37] {
-            add(file, &record, length);
-        }
+        add_profile_lengths(file, cycle);
     }
+    add_record_lengths(file);
+}
+
+fn add_profile_lengths(file: &mut File, cycle: u32) {
+    let exact = 3 * cycle as usize;
+    for length in [0, 1, exact - 1, exact, exact + 1, exact + 37] {
+        add(file, &busy(cycle), length);
+    }
+}
+
+fn add_record_lengths(file: &mut File) {
     let long = [busy(30), busy(30)].concat();
-    for length in [0, 1, 4, 67, 68, 69, 136] {
-        add(file, &long[..length], 90);
-        add(file, &long[..length], 89);
-        add(file, &long[..length], 0);
+    for (length, profile) in product(&[0, 1, 4, 67, 68, 69, 136], &[90, 89, 0]) {
+        add(file, &long[..length], profile);
     }
 }
 
 /// Every field at both ends of its range.
 fn add_range_ends(file: &mut File) {
     for cycle in [CYCLE_LEAST, CYCLE_MOST] {
-        for (at, most) in volume_fields() {
-            for value in [0, u32::from(most)] {
-                add_changed(file, cycle, |record| put_u16(record, at, value));
-            }
-        }
-        for at in green_fields() {
-            for (start, length) in [(0, 0), (cycle - 1, 0), (0, cycle), (cycle - 1, cycle)] {
-                add_changed(file, cycle, |record| put_green(record, at, start, length));
-            }
-        }
+        add_all(file, cycle, &volume_and_green_ends(cycle));
     }
-    for value in [1000, 300_000] {
-        add_changed(file, CYCLE_LEAST, |record| {
-            put_u32(record, RUNNING_TIME_AT, value)
-        });
-    }
-    for value in [1000, 10000] {
-        add_changed(file, CYCLE_LEAST, |record| put_u16(record, HEADWAY_AT, value));
-    }
-    for value in [0, u32::MAX] {
-        add_changed(file, CYCLE_LEAST, |record| put_u32(record, 0, value));
-    }
-    for seeds in [[[100, 0, 0, 0]; 4], [[0, 0, 0, 100]; 4], [[25; 4]; 4]] {
-        add_changed(file, CYCLE_LEAST, |record| put_seeds(record, &seeds));
-    }
-    add_extremes(file);
+    add_all(file, CYCLE_LEAST, &running_time_ends());
+    add_all(file, CYCLE_LEAST, &headway_ends());
+    add_all(file, CYCLE_LEAST, &number_ends());
+    add_all(file, CYCLE_LEAST, &seed_ends());
 }
 
-fn add_changed(file: &mut File, cycle: u32, change: impl Fn(&mut RecordBytes)) {
-    let mut record = busy(cycle);
-    change(&mut record);
-    add_full(file, cycle, &record);
+fn add_all(file: &mut File, cycle: u32, records: &[RecordBytes]) {
+    for record in records {
+        add_full(file, cycle, record);
+    }
 }
 
 /// All three entries with the most and the least at once.
 fn add_extremes(file: &mut File) {
-    for cycle in [CYCLE_LEAST, 59, CYCLE_MOST] {
-        for on_green in [0, 1, 999, 1000] {
-            let mut record = busy(cycle);
-            put_entry(&mut record, 0, [6000, 12000, cycle - 1, cycle, on_green]);
-            put_entry(&mut record, 1, [6000, 12000, cycle / 2, cycle / 2, on_green]);
-            put_entry(&mut record, 2, [6000, 1, cycle - 1, 2, on_green]);
-            add_full(file, cycle, &record);
-        }
+    for (cycle, on_green) in product(&[CYCLE_LEAST, 59, CYCLE_MOST], &[0, 1, 999, 1000]) {
+        let mut record = busy(cycle);
+        put_entry(&mut record, 0, [6000, 12000, cycle - 1, cycle, on_green]);
+        put_entry(
+            &mut record,
+            1,
+            [6000, 12000, cycle / 2, cycle / 2, on_green],
+        );
+        put_entry(&mut record, 2, [6000, 1, cycle - 1, 2, on_green]);
+        add_full(file, cycle, &record);
     }
 }
 
@@ -177,26 +169,36 @@ pub fn refused_by_volume() -> [RecordBytes; 6] {
     ]
 }
 
-/// Refusals 7 to 12 alone and two at once, with the profile long enough and not.
+/// Refusals 7 to 12 alone, with the profile long enough and not, and two at once.
 fn add_faults(file: &mut File) {
     let faults = faults(CYCLE_LEAST);
+    add_single_faults(file, &faults);
+    add_green_faults(file, &faults);
+    add_fault_pairs(file);
+}
+
+/// Each fault; one in three also before 16 and after 6.
+fn add_single_faults(file: &mut File, faults: &[Fault]) {
     for (n, fault) in faults.iter().enumerate() {
-        let mut record = busy(CYCLE_LEAST);
-        fault.apply(&mut record);
+        let record = fault.applied(busy(CYCLE_LEAST));
         add(file, &record, 90);
         if n % 3 == 0 {
             add(file, &record, 89);
             add(file, &record[..67], 90);
         }
     }
-    for fault in faults.iter().filter(|fault| fault.number == 11) {
-        let mut record = busy(CYCLE_LEAST);
-        fault.apply(&mut record);
-        add(file, &record, 5);
+}
+
+/// A fault of a green before 16.
+fn add_green_faults(file: &mut File, faults: &[Fault]) {
+    for fault in faults.iter().filter(|fault| fault.number == GREEN) {
+        add(file, &fault.applied(busy(CYCLE_LEAST)), 5);
     }
-    for pair in fault_pairs(CYCLE_LEAST) {
-        let mut record = busy(CYCLE_LEAST);
-        pair.iter().for_each(|fault| fault.apply(&mut record));
+}
+
+fn add_fault_pairs(file: &mut File) {
+    for [low, high] in fault_pairs(CYCLE_LEAST) {
+        let record = high.applied(low.applied(busy(CYCLE_LEAST)));
         add(file, &record, 90);
     }
 }
