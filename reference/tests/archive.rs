@@ -1,6 +1,6 @@
 //! Archives: adding, reading back, finding, refusals.
 
-use reference::archive::{add, find, read, title, EMPTY};
+use reference::archive::{add, find, read, title, Archive, EMPTY};
 use reference::random::Random;
 use reference::samples::{put_u32, RecordBytes};
 use reference::vectors::archive::write;
@@ -38,6 +38,18 @@ fn added(records: &[Filed]) -> Vec<u8> {
     archive
 }
 
+/// Each record and title is found where it is filed.
+fn reads_back(bytes: &[u8], archive: &Archive, records: &[Filed]) {
+    for (i, (record, name)) in records.iter().enumerate() {
+        let place = archive.place(i);
+        assert_eq!(archive.record_at(place), record);
+        assert_eq!(archive.title_at(place), name);
+        let number = archive.number_at(place);
+        assert_eq!(find(bytes, number), Ok(place));
+        assert_eq!(title(bytes, number), name);
+    }
+}
+
 #[test]
 fn adding_reads_back() {
     let mut random = Random::new(31);
@@ -47,14 +59,7 @@ fn adding_reads_back() {
         assert_eq!(archive, write(&records));
         let reading = read(&archive).unwrap();
         assert_eq!(reading.count(), count);
-        for (i, (record, name)) in records.iter().enumerate() {
-            let place = reading.place(i);
-            assert_eq!(reading.record_at(place), record);
-            assert_eq!(reading.title_at(place), name);
-            let number = reading.number_at(place);
-            assert_eq!(find(&archive, number), Ok(place));
-            assert_eq!(title(&archive, number), name);
-        }
+        reads_back(&archive, &reading, &records);
         assert_eq!(find(&archive, 0), Err(6));
         assert_eq!(find(&archive, u32::MAX), Err(6));
         assert!(title(&archive, 0).is_empty());
@@ -116,16 +121,14 @@ fn precedence_in_the_body() {
     let four: Change = |records| records[0].1 = vec![127];
     let five: Change = |records| put_u32(&mut records[0].0, 0, 0);
     let good = random_records(&mut Random::new(34), 3);
-    let cases: [(&[Change], Option<u32>); 5] = [
-        (&[], None),
-        (&[five], Some(5)),
-        (&[five, four], Some(4)),
-        (&[five, three], Some(3)),
-        (&[five, four, three], Some(3)),
-    ];
-    for (changes, number) in cases {
+    let number = |changes: &[Change]| {
         let mut records = good.clone();
         changes.iter().for_each(|change| change(&mut records));
-        assert_eq!(read(&write(&records)).err(), number);
-    }
+        read(&write(&records)).err()
+    };
+    assert_eq!(number(&[]), None);
+    assert_eq!(number(&[five]), Some(5));
+    assert_eq!(number(&[five, four]), Some(4));
+    assert_eq!(number(&[five, three]), Some(3));
+    assert_eq!(number(&[five, four, three]), Some(3));
 }

@@ -23,14 +23,16 @@ fn lengths() {
     }
 }
 
+fn check_faults(cycle: u32) {
+    for fault in faults(cycle) {
+        let record = fault.applied(busy(cycle));
+        assert_eq!(decode(&record), Err(fault.number), "{fault:?}");
+    }
+}
+
 #[test]
 fn each_fault_alone() {
-    for cycle in [30, 77, 240] {
-        for fault in faults(cycle) {
-            let record = fault.applied(busy(cycle));
-            assert_eq!(decode(&record), Err(fault.number), "{fault:?}");
-        }
-    }
+    [30, 77, 240].into_iter().for_each(check_faults);
 }
 
 #[test]

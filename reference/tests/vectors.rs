@@ -214,9 +214,11 @@ fn every_refusal_is_met() {
         ],
     ];
     for ((name, file), labels) in all().iter().zip(labels) {
-        for &label in labels {
-            assert!(file.tally.contains_key(label), "{name} lacks {label}");
-        }
+        let lacking: Vec<&&str> = labels
+            .iter()
+            .filter(|&&label| !file.tally.contains_key(label))
+            .collect();
+        assert!(lacking.is_empty(), "{name} lacks {lacking:?}");
         assert_eq!(file.tally.len(), labels.len() + 1);
     }
 }

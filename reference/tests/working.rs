@@ -1,7 +1,8 @@
 //! The working as called: what it writes, what it leaves, its refusals.
 
+use reference::arrivals::ExitFigures;
 use reference::random::Random;
-use reference::samples::{busy, put_entry, put_u16, put_u32, quiet, random_record};
+use reference::samples::{busy, put_entry, put_u16, put_u32, quiet, random_record, RecordBytes};
 use reference::vectors::discharge::refused_by_volume;
 use reference::vectors::faults::faults;
 use reference::working::{work, Working};
@@ -33,13 +34,17 @@ fn worked(record: &[u8], cycle: usize) -> (Working, Vec<u32>) {
 }
 
 #[test]
-fn refusals_leave_the_profiles() {
+fn faults_leave_the_profiles() {
     for fault in faults(30) {
         let record = fault.applied(busy(30));
         assert_eq!(number(&record, [120, 30, 30]), fault.number);
         assert_eq!(number(&record, [0, 0, 0]), fault.number);
     }
     assert_eq!(number(&busy(30)[1..], [120, 30, 30]), 6);
+}
+
+#[test]
+fn refused_volumes_leave_the_profiles() {
     let expected = [13, 13, 14, 14, 15, 15];
     for (record, expected) in refused_by_volume().iter().zip(expected) {
         assert_eq!(number(record, [120, 30, 30]), expected);
@@ -90,36 +95,43 @@ fn idle_right_entry() {
     assert_eq!((second[..30].to_vec(), second[30]), (vec![0; 30], 9));
 }
 
-/// The exit figures and the blocked count by another way.
+fn check_figures(figures: &ExitFigures, run: &[u32], [start, length]: [usize; 2]) {
+    let cycle = run.len();
+    let green = |at: usize| (at + cycle - start) % cycle < length;
+    let on_green: u64 = (0..cycle)
+        .filter(|&at| green(at))
+        .map(|at| u64::from(run[at]))
+        .sum();
+    let total: u64 = run.iter().map(|&flow| u64::from(flow)).sum();
+    assert_eq!((figures.total, figures.green), (total, on_green));
+    let low = u64::from(figures.permille) * total;
+    assert!(low <= 1000 * on_green && (total == 0 || 1000 * on_green < low + total));
+}
+
+/// The exit figures and the blocked count of an accepted record by another way.
+fn check_working(record: &RecordBytes, cycle: usize) {
+    let (working, output) = worked(record, cycle);
+    let headway = u64::from(record[10]) + 256 * u64::from(record[11]);
+    let blocks = |&&flow: &&u32| u64::from(flow) * headway > 3_600_000_000;
+    let through = &output[cycle..2 * cycle];
+    assert_eq!(
+        working.blocked as usize,
+        through.iter().filter(blocks).count()
+    );
+    for (j, run) in output.chunks_exact(cycle).take(3).enumerate() {
+        let green = [record[46 + 2 * j], record[47 + 2 * j]].map(usize::from);
+        check_figures(&working.exits[j], run, green);
+    }
+}
+
 #[test]
 fn figures_from_the_output() {
     let mut random = Random::new(61);
     for _ in 0..500 {
         let cycle = random.with_ends(30, 240) as usize;
         let record = random_record(&mut random, cycle as u32);
-        if number(&record, [4 * cycle, cycle, cycle]) != 0 {
-            continue;
-        }
-        let (working, output) = worked(&record, cycle);
-        let headway = u64::from(record[10]) + 256 * u64::from(record[11]);
-        let blocks = |&&flow: &&u32| u64::from(flow) * headway > 3_600_000_000;
-        let through = &output[cycle..2 * cycle];
-        assert_eq!(
-            working.blocked as usize,
-            through.iter().filter(blocks).count()
-        );
-        for (j, figures) in working.exits.iter().enumerate() {
-            let run = &output[j * cycle..(j + 1) * cycle];
-            let (start, length) = (record[46 + 2 * j] as usize, record[47 + 2 * j] as usize);
-            let green = |at: usize| (at + cycle - start) % cycle < length;
-            let on_green: u64 = (0..cycle)
-                .filter(|&at| green(at))
-                .map(|at| u64::from(run[at]))
-                .sum();
-            let total: u64 = run.iter().map(|&flow| u64::from(flow)).sum();
-            assert_eq!((figures.total, figures.green), (total, on_green));
-            let low = u64::from(figures.permille) * total;
-            assert!(low <= 1000 * on_green && (total == 0 || 1000 * on_green < low + total));
+        if number(&record, [4 * cycle, cycle, cycle]) == 0 {
+            check_working(&record, cycle);
         }
     }
 }
