@@ -15,12 +15,8 @@ fn random_records(random: &mut Random, count: usize) -> Vec<Filed> {
         number += random.between(1, 5);
         put_u32(&mut record, 0, number);
         let length = random.with_ends(0, 40);
-        (
-            record,
-            (0..length)
-                .map(|_| random.with_ends(32, 126) as u8)
-                .collect(),
-        )
+        let title = (0..length).map(|_| random.with_ends(32, 126) as u8);
+        (record, title.collect())
     };
     (0..count).map(&mut record).collect()
 }

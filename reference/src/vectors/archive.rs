@@ -374,23 +374,27 @@ fn add_damaged_at(file: &mut File, good: &[u8], at: usize, changes: [u8; 3]) {
     }
 }
 
-/// Random bytes, bare and before a right mark or a right trailer.
 fn add_noise(file: &mut File, random: &mut Random) {
     for n in 0..120 {
-        let length = random.below(240) as usize;
-        let mut noise = random.bytes(length);
-        match n % 3 {
-            0 => (),
-            1 => noise.extend(MARK),
-            _ => {
-                let count = random.below(4) as usize;
-                let places = random.bytes(2 * count);
-                noise = end(noise, &places, count);
-            }
-        }
+        let noise = noise(random, n);
         add_read(file, &noise);
         let number = random.below(3);
         add_find(file, &noise, number);
+    }
+}
+
+/// Random bytes, bare, before a right mark and before a right trailer in turn.
+fn noise(random: &mut Random, n: u32) -> Vec<u8> {
+    let length = random.below(240) as usize;
+    let noise = random.bytes(length);
+    match n % 3 {
+        0 => noise,
+        1 => [&noise[..], &MARK].concat(),
+        _ => {
+            let count = random.below(4) as usize;
+            let places = random.bytes(2 * count);
+            end(noise, &places, count)
+        }
     }
 }
 

@@ -2,7 +2,7 @@
 
 use super::faults::{fault_pairs, faults, Fault};
 use super::range_ends::{
-    headway_ends, number_ends, running_time_ends, seed_ends, volume_and_green_ends,
+    green_ends, headway_ends, number_ends, running_time_ends, seed_ends, volume_ends,
 };
 use super::{product, profile_before, Body, File, OUTPUT_BEFORE};
 use crate::discharge::discharge;
@@ -81,7 +81,8 @@ fn add_record_lengths(file: &mut File) {
 /// Every field at both ends of its range.
 fn add_range_ends(file: &mut File) {
     for cycle in [CYCLE_LEAST, CYCLE_MOST] {
-        add_all(file, cycle, &volume_and_green_ends(cycle));
+        add_all(file, cycle, &volume_ends(cycle));
+        add_all(file, cycle, &green_ends(cycle));
     }
     add_all(file, CYCLE_LEAST, &running_time_ends());
     add_all(file, CYCLE_LEAST, &headway_ends());

@@ -5,45 +5,52 @@ use super::product;
 use crate::record::{CYCLE_LEAST, HEADWAY_AT, NUMBER_AT, RUNNING_TIME_AT};
 use crate::samples::{busy, put_green, put_seeds, put_u16, put_u32, RecordBytes};
 
-fn changed(cycle: u32, change: impl FnOnce(&mut RecordBytes)) -> RecordBytes {
+fn with_u16(cycle: u32, at: usize, value: u32) -> RecordBytes {
     let mut record = busy(cycle);
-    change(&mut record);
+    put_u16(&mut record, at, value);
     record
 }
 
-/// Every volume, saturation and share arriving on green, then every green.
-pub fn volume_and_green_ends(cycle: u32) -> Vec<RecordBytes> {
-    let volumes = |(at, most): (usize, u16)| {
-        [0, u32::from(most)].map(|value| changed(cycle, |record| put_u16(record, at, value)))
+fn with_u32(cycle: u32, at: usize, value: u32) -> RecordBytes {
+    let mut record = busy(cycle);
+    put_u32(&mut record, at, value);
+    record
+}
+
+/// Every volume, saturation and share arriving on green.
+pub fn volume_ends(cycle: u32) -> Vec<RecordBytes> {
+    let ends = |(at, most)| [0, u32::from(most)].map(|value| with_u16(cycle, at, value));
+    volume_fields().into_iter().flat_map(ends).collect()
+}
+
+/// Every green, at both ends of its start and of its length.
+pub fn green_ends(cycle: u32) -> Vec<RecordBytes> {
+    let ends = [(0, 0), (cycle - 1, 0), (0, cycle), (cycle - 1, cycle)];
+    let with_green = |(at, (start, length))| {
+        let mut record = busy(cycle);
+        put_green(&mut record, at, start, length);
+        record
     };
-    let greens = [(0, 0), (cycle - 1, 0), (0, cycle), (cycle - 1, cycle)];
-    let green = |(at, (start, length))| {
-        changed(cycle, |record: &mut RecordBytes| {
-            put_green(record, at, start, length)
-        })
-    };
-    let volumes = volume_fields().into_iter().flat_map(volumes);
-    let greens = product(&green_fields(), &greens).into_iter().map(green);
-    volumes.chain(greens).collect()
+    let greens = product(&green_fields(), &ends).into_iter();
+    greens.map(with_green).collect()
 }
 
 pub fn running_time_ends() -> [RecordBytes; 2] {
-    [1000, 300_000].map(|value| {
-        changed(CYCLE_LEAST, |record| {
-            put_u32(record, RUNNING_TIME_AT, value)
-        })
-    })
+    [1000, 300_000].map(|value| with_u32(CYCLE_LEAST, RUNNING_TIME_AT, value))
 }
 
 pub fn headway_ends() -> [RecordBytes; 2] {
-    [1000, 10000].map(|value| changed(CYCLE_LEAST, |record| put_u16(record, HEADWAY_AT, value)))
+    [1000, 10000].map(|value| with_u16(CYCLE_LEAST, HEADWAY_AT, value))
 }
 
 pub fn number_ends() -> [RecordBytes; 2] {
-    [0, u32::MAX].map(|value| changed(CYCLE_LEAST, |record| put_u32(record, NUMBER_AT, value)))
+    [0, u32::MAX].map(|value| with_u32(CYCLE_LEAST, NUMBER_AT, value))
 }
 
 pub fn seed_ends() -> [RecordBytes; 3] {
-    [[[100, 0, 0, 0]; 4], [[0, 0, 0, 100]; 4], [[25; 4]; 4]]
-        .map(|seeds| changed(CYCLE_LEAST, |record| put_seeds(record, &seeds)))
+    [[100, 0, 0, 0], [0, 0, 0, 100], [25; 4]].map(|row| {
+        let mut record = busy(CYCLE_LEAST);
+        put_seeds(&mut record, &[row; 4]);
+        record
+    })
 }

@@ -3,11 +3,11 @@
 use super::balance_cases::{Inputs, BY_ROUNDS, BY_STOP};
 use super::discharge::refused_by_volume;
 use super::faults::{fault_pairs, faults, Fault};
-use super::range_ends::{headway_ends, number_ends, volume_and_green_ends};
+use super::range_ends::{green_ends, headway_ends, number_ends, volume_ends};
 use super::{product, profile_before, Body, File, FIRST_BEFORE, OUTPUT_BEFORE, SECOND_BEFORE};
 use crate::arrivals::ExitFigures;
 use crate::random::Random;
-use crate::record::{ACCESS_AT, CYCLE_LEAST, CYCLE_MOST, HEADWAY_AT, RUNNING_TIME_AT};
+use crate::record::{ACCESS, ACCESS_AT, CYCLE_LEAST, CYCLE_MOST, HEADWAY_AT, RUNNING_TIME_AT};
 use crate::samples::{
     busy, put_downstream, put_entry, put_exits, put_seeds, put_u16, put_u32, quiet, random_record,
     RecordBytes,
@@ -224,12 +224,10 @@ fn add_near_blocking(file: &mut File) {
 
 /// Every field at both ends of its range; the running times are with the turns of t'.
 fn add_range_ends(file: &mut File) {
-    let records = volume_and_green_ends(CYCLE_LEAST)
-        .into_iter()
-        .chain(headway_ends())
-        .chain(number_ends());
-    for record in records {
-        add_exact(file, CYCLE_LEAST, &record);
+    let volumes_and_greens = [volume_ends(CYCLE_LEAST), green_ends(CYCLE_LEAST)].concat();
+    let headways_and_numbers = [headway_ends(), number_ends()].concat();
+    for record in volumes_and_greens.iter().chain(&headways_and_numbers) {
+        add_exact(file, CYCLE_LEAST, record);
     }
 }
 
@@ -296,7 +294,7 @@ fn balance_record((discharge, exits, seeds): &Inputs) -> RecordBytes {
             [discharge[i as usize], 12000, 7 * i, 15 + i, 300 * i],
         );
     }
-    put_u16(&mut record, ACCESS_AT, discharge[3]);
+    put_u16(&mut record, ACCESS_AT, discharge[ACCESS]);
     put_exits(&mut record, *exits);
     put_seeds(&mut record, seeds);
     record
