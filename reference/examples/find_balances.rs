@@ -66,29 +66,39 @@ fn idle_exit(random: &mut Random) -> Option<String> {
     (result.stop == Some(Stop::ExitVolume)).then_some(line)
 }
 
-fn main() {
+fn print_idle_exits() {
     let mut random = Random::new(99);
-    let idle = (0..TRIES).filter_map(|_| idle_exit(&mut random)).take(KEPT);
-    idle.for_each(|line| println!("{line}"));
+    let idle = (0..TRIES).filter_map(|_| idle_exit(&mut random));
+    idle.take(KEPT).for_each(|line| println!("{line}"));
+}
+
+/// A balance at random: its class and its line, if it is kept.
+fn random_balance(random: &mut Random) -> Option<(String, String)> {
+    let discharge = [(); 4].map(|_| volume(random, 6000));
+    let exits = [(); 4].map(|_| volume(random, 12000));
+    let seeds = seeds(random);
+    check_volumes(&discharge, &exits, &seeds).ok()?;
+    let result = balance(&discharge, &exits, &seeds, ROUND_LIMIT + 1);
+    let (class, start) = class(result.outcome, result.rounds, result.stop)?;
+    let line = format!("    ({start}, ({discharge:?}, {exits:?}, {seeds:?})),");
+    Some((class, line))
+}
+
+/// The first lines of each class.
+fn first_of_each_class() -> BTreeMap<String, Vec<String>> {
     let mut random = Random::new(201);
     let mut found: BTreeMap<String, Vec<String>> = BTreeMap::new();
-    for _ in 0..TRIES {
-        let discharge = [(); 4].map(|_| volume(&mut random, 6000));
-        let exits = [(); 4].map(|_| volume(&mut random, 12000));
-        let seeds = seeds(&mut random);
-        if check_volumes(&discharge, &exits, &seeds).is_err() {
-            continue;
-        }
-        let result = balance(&discharge, &exits, &seeds, ROUND_LIMIT + 1);
-        let Some((class, start)) = class(result.outcome, result.rounds, result.stop) else {
-            continue;
-        };
+    for (class, line) in (0..TRIES).filter_map(|_| random_balance(&mut random)) {
         let kept = found.entry(class).or_default();
         if kept.len() < KEPT {
-            kept.push(format!(
-                "    ({start}, ({discharge:?}, {exits:?}, {seeds:?})),"
-            ));
+            kept.push(line);
         }
     }
+    found
+}
+
+fn main() {
+    print_idle_exits();
+    let found = first_of_each_class();
     found.values().flatten().for_each(|line| println!("{line}"));
 }

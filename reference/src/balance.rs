@@ -211,18 +211,21 @@ pub fn check_volumes(discharge: &[u32; 4], exits: &[u32; 4], seeds: &Seeds) -> R
     Ok(())
 }
 
-/// Pair flows: exits left, right, access in turn, then through takes what is left.
+/// Pair flows of all entries, row by row.
 pub fn pair_flows(discharge: &[u32; 4], cells: &[Four; 4]) -> PairFlows {
-    let mut flows = [[0; 4]; 4];
-    for (i, row) in flows.iter_mut().enumerate() {
-        let mut left_over = UNITS * discharge[i];
-        for j in [LEFT, RIGHT, ACCESS] {
-            row[j] = whole_part_or(cells[i][j] * 1000.0, left_over);
-            left_over -= row[j];
-        }
-        row[THROUGH] = left_over;
+    [0, 1, 2, 3].map(|i| entry_flows(discharge[i], &cells[i]))
+}
+
+/// One entry's row: exits left, right, access in turn, then through takes what is left.
+fn entry_flows(discharge: u32, cells: &Four) -> [u32; 4] {
+    let mut row = [0; 4];
+    let mut left_over = UNITS * discharge;
+    for j in [LEFT, RIGHT, ACCESS] {
+        row[j] = whole_part_or(cells[j] * 1000.0, left_over);
+        left_over -= row[j];
     }
-    flows
+    row[THROUGH] = left_over;
+    row
 }
 
 /// The whole part of `amount`, or `left_over` where that is less.

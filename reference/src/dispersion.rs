@@ -2,7 +2,7 @@
 
 /// Numerator of the smoothing factor F (paper: N).
 pub const NUMERATOR: u64 = 500_000;
-/// Cycles worked from an empty street; the last is reported.
+/// Cycles worked from an empty link; the last is reported.
 pub const CYCLES: usize = 2;
 
 /// Denominator of the smoothing factor F (paper: D).
@@ -15,17 +15,17 @@ pub fn arrival_time(running_time: u32) -> u32 {
     ((862 * u64::from(running_time) + 435_000) / 1_000_000) as u32
 }
 
-/// The street between the signals: its level and carry.
+/// The link between the signals (paper: street): its level and carry.
 #[derive(Clone, Copy, Debug, PartialEq, Eq)]
-pub struct Street {
+pub struct Link {
     denominator: u64,
     pub level: u64,
     pub carry: u64,
 }
 
-impl Street {
-    pub fn empty(running_time: u32) -> Street {
-        Street {
+impl Link {
+    pub fn empty(running_time: u32) -> Link {
+        Link {
             denominator: denominator(running_time),
             level: 0,
             carry: 0,
@@ -40,6 +40,13 @@ impl Street {
         self.carry = made % self.denominator;
         self.level as u32
     }
+
+    /// One cycle of steps: a discharge and an arrival for each.
+    fn run(&mut self, discharge: &[u32], arrivals: &mut [u32]) {
+        for (arrival, &leaving) in arrivals.iter_mut().zip(discharge) {
+            *arrival = self.step(leaving);
+        }
+    }
 }
 
 /// Works all cycles, alternating between the two work profiles, cycle one in the first.
@@ -50,16 +57,14 @@ pub fn disperse<'a>(
     first: &'a mut [u32],
     second: &'a mut [u32],
 ) -> &'a [u32] {
-    let mut street = Street::empty(running_time);
+    let mut link = Link::empty(running_time);
     for cycle in 0..CYCLES {
         let profile = if cycle % 2 == 0 {
             &mut *first
         } else {
             &mut *second
         };
-        for (arrival, &leaving) in profile.iter_mut().zip(discharge) {
-            *arrival = street.step(leaving);
-        }
+        link.run(discharge, profile);
     }
     if CYCLES % 2 == 1 {
         first

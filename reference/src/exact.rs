@@ -1,8 +1,8 @@
 //! The exact working, and demand 3 of a working's result.
 
-use crate::arrivals::PairShare;
+use crate::arrivals::{total, PairShare};
 use crate::discharge::{fill_discharge, UNITS};
-use crate::dispersion::{arrival_time, denominator, Street, CYCLES, NUMERATOR};
+use crate::dispersion::{arrival_time, denominator, Link, CYCLES, NUMERATOR};
 use crate::greens::Step;
 use crate::metering::discharge_volumes;
 use crate::natural::Natural;
@@ -44,9 +44,9 @@ fn platoons(record: &Record) -> Vec<Platoon> {
     let platoon = |i: usize| {
         let mut leaving = vec![0; record.cycle as usize];
         fill_discharge(&record.entries[i], &mut leaving);
-        let mut street = Street::empty(record.running_time);
+        let mut link = Link::empty(record.running_time);
         let all = leaving.iter().cycle().take(CYCLES * leaving.len());
-        let arrivals = all.map(|&q| street.step(q)).collect();
+        let arrivals = all.map(|&q| link.step(q)).collect();
         Platoon {
             whole: u64::from(UNITS) * u64::from(volumes[i]),
             leaving,
@@ -73,39 +73,57 @@ fn check_work_profiles(worked: &Worked, right: &Platoon) -> Result<(), String> {
     Ok(())
 }
 
-/// Xk of one entry: X0 = 0, Xk = N·q·D^(k-1) + (D-N)·X(k-1).
-fn exact_step(x: &Natural, leaving: u32, power: &Natural, divisor: u64) -> Natural {
-    let new = power.times(NUMERATOR).times(u64::from(leaving));
-    new.plus(&x.times(divisor - NUMERATOR))
+/// The exact arrivals after k steps, Xk/D^k for each entry.
+struct ExactArrivals {
+    divisor: u64,
+    /// Xk of each entry.
+    numerators: Vec<Natural>,
+    /// D^k.
+    power: Natural,
+}
+
+impl ExactArrivals {
+    /// The empty link, k = 0.
+    fn empty(running_time: u32, entries: usize) -> ExactArrivals {
+        ExactArrivals {
+            divisor: denominator(running_time),
+            numerators: vec![Natural::zero(); entries],
+            power: Natural::one(),
+        }
+    }
+
+    /// Xk = N·q·D^(k-1) + (D-N)·X(k-1), q the discharge of the step.
+    fn step(&mut self, platoons: &[Platoon], step: Step) {
+        for (x, platoon) in self.numerators.iter_mut().zip(platoons) {
+            let leaving = u64::from(platoon.leaving[step.index()]);
+            let new = self.power.times(NUMERATOR).times(leaving);
+            *x = new.plus(&x.times(self.divisor - NUMERATOR));
+        }
+        self.power = self.power.times(self.divisor);
+    }
 }
 
 /// Part 1: each exit's flow in each step is within six of the exact one.
 fn check_exit_flows(worked: &Worked, platoons: &[Platoon]) -> Result<(), String> {
     let cycle = worked.record.cycle;
-    let divisor = denominator(worked.record.running_time);
     let shift = arrival_time(worked.record.running_time);
-    let mut exact = vec![Natural::zero(); platoons.len()];
-    let mut power = Natural::one();
+    let mut exact = ExactArrivals::empty(worked.record.running_time, platoons.len());
     for k in 1..=CYCLES as u32 * cycle {
         let step = Step((k - 1) % cycle + 1);
-        for (x, platoon) in exact.iter_mut().zip(platoons) {
-            *x = exact_step(x, platoon.leaving[step.index()], &power, divisor);
-        }
-        power = power.times(divisor);
+        exact.step(platoons, step);
         if k > (CYCLES as u32 - 1) * cycle {
             let landed = Step((step.0 + shift - 1) % cycle + 1);
-            check_step(worked, platoons, &exact, &power, landed)?;
+            check_step(worked, platoons, &exact, landed)?;
         }
     }
     Ok(())
 }
 
-/// Part 1 at one step: `exact` holds the Xk and `power` D^k.
+/// Part 1 at one step, over the common denominator of the exit's flows.
 fn check_step(
     worked: &Worked,
     platoons: &[Platoon],
-    exact: &[Natural],
-    power: &Natural,
+    exact: &ExactArrivals,
     landed: Step,
 ) -> Result<(), String> {
     let busy: Vec<usize> = (0..platoons.len())
@@ -115,12 +133,12 @@ fn check_step(
         let others = busy.iter().filter(|&&i| i != skip);
         others.fold(start, |product, &i| product.times(platoons[i].whole))
     };
-    let common = over(ACCESS, power.clone());
+    let common = over(ACCESS, exact.power.clone());
     for j in 0..4 {
         let share = |i: usize| u64::from(worked.working.flows[i][j]);
         let access = common.times(share(ACCESS));
         let flow = busy.iter().fold(access, |sum, &i| {
-            sum.plus(&over(i, exact[i].times(share(i))))
+            sum.plus(&over(i, exact.numerators[i].times(share(i))))
         });
         let run = &worked.output[j * worked.record.cycle as usize..];
         let found = u64::from(run[landed.index()]);
@@ -133,46 +151,50 @@ fn check_step(
     Ok(())
 }
 
-fn add_up(numbers: &[u32]) -> u64 {
-    numbers.iter().map(|&number| u64::from(number)).sum()
-}
-
 /// Part 2: N·(discharged - arrived) - (D-N)·last is from 0 to D-1.
 fn check_entry(record: &Record, platoon: &Platoon) -> Result<(), String> {
     let divisor = denominator(record.running_time);
-    let discharged = CYCLES as u64 * add_up(&platoon.leaving);
-    let arrived = add_up(&platoon.arrivals);
+    let discharged = CYCLES as u64 * total(&platoon.leaving);
+    let arrived = total(&platoon.arrivals);
     let last = platoon.arrivals.last().map_or(0, |&last| u64::from(last));
-    let on_street = i128::from(discharged) - i128::from(arrived);
+    let on_link = i128::from(discharged) - i128::from(arrived);
     let kept = i128::from(divisor - NUMERATOR) * i128::from(last);
-    let rest = i128::from(NUMERATOR) * on_street - kept;
+    let rest = i128::from(NUMERATOR) * on_link - kept;
     if !(0..i128::from(divisor)).contains(&rest) {
         return Err(format!("discharged less arrived leaves {rest}"));
     }
     Ok(())
 }
 
-/// Part 3: a pair's arrivals are its share of the entry's, short by less than one.
-/// The exits' totals must be these pairs' arrivals and access added.
+/// Part 3 for each exit.
 fn check_pairs(worked: &Worked, platoons: &[Platoon]) -> Result<(), String> {
+    (0..4).try_for_each(|j| check_exit_pairs(worked, platoons, j))
+}
+
+/// A pair's arrivals are its share of the entry's, short by less than one.
+/// The exit's total must be its pairs' arrivals and access added.
+fn check_exit_pairs(worked: &Worked, platoons: &[Platoon], j: usize) -> Result<(), String> {
     let cycle = worked.record.cycle as usize;
-    for j in 0..4 {
-        let run = &worked.output[j * cycle..(j + 1) * cycle];
-        let mut total = cycle as u64 * u64::from(worked.working.flows[ACCESS][j]);
-        for (i, platoon) in platoons.iter().enumerate().filter(|(_, p)| p.whole > 0) {
-            let reported = &platoon.arrivals[platoon.arrivals.len() - cycle..];
-            let flow = worked.working.flows[i][j];
-            let mut share = PairShare::new(flow, (platoon.whole / u64::from(UNITS)) as u32);
-            let pair: u64 = reported.iter().map(|&a| u64::from(share.take(a))).sum();
-            let due = u64::from(flow) * add_up(reported);
-            if pair * platoon.whole > due || due - pair * platoon.whole >= platoon.whole {
-                return Err(format!("pair {i} {j} is off its share"));
-            }
-            total += pair;
+    let run = &worked.output[j * cycle..(j + 1) * cycle];
+    let mut expected = cycle as u64 * u64::from(worked.working.flows[ACCESS][j]);
+    for (i, platoon) in platoons.iter().enumerate().filter(|(_, p)| p.whole > 0) {
+        let reported = &platoon.arrivals[platoon.arrivals.len() - cycle..];
+        let flow = worked.working.flows[i][j];
+        let pair = pair_arrivals(reported, flow, platoon.whole);
+        let due = u64::from(flow) * total(reported);
+        if pair * platoon.whole > due || due - pair * platoon.whole >= platoon.whole {
+            return Err(format!("pair {i} {j} is off its share"));
         }
-        if add_up(run) != total {
-            return Err(format!("exit {j} does not hold its pairs"));
-        }
+        expected += pair;
+    }
+    if total(run) != expected {
+        return Err(format!("exit {j} does not hold its pairs"));
     }
     Ok(())
+}
+
+/// A pair's arrivals over the reported cycle, its share being `flow` of `whole`.
+fn pair_arrivals(reported: &[u32], flow: u32, whole: u64) -> u64 {
+    let mut share = PairShare::new(flow, (whole / u64::from(UNITS)) as u32);
+    reported.iter().map(|&a| u64::from(share.take(a))).sum()
 }

@@ -9,93 +9,93 @@ use crate::record::{
 };
 
 /// The bytes of a record.
-pub type Card = [u8; RECORD_BYTES];
+pub type RecordBytes = [u8; RECORD_BYTES];
 
 /// A signalised entry: volume, saturation, start post, green length, share on green.
 pub type EntryFields = [u32; 5];
 
-pub fn put_u16(card: &mut [u8], at: usize, value: u32) {
-    card[at..at + 2].copy_from_slice(&value.to_le_bytes()[..2]);
+pub fn put_u16(bytes: &mut [u8], at: usize, value: u32) {
+    bytes[at..at + 2].copy_from_slice(&value.to_le_bytes()[..2]);
 }
 
-pub fn put_u32(card: &mut [u8], at: usize, value: u32) {
-    card[at..at + 4].copy_from_slice(&value.to_le_bytes());
+pub fn put_u32(bytes: &mut [u8], at: usize, value: u32) {
+    bytes[at..at + 4].copy_from_slice(&value.to_le_bytes());
 }
 
-pub fn put_green(card: &mut [u8], at: usize, start: u32, length: u32) {
-    card[at] = start as u8;
-    card[at + 1] = length as u8;
+pub fn put_green(bytes: &mut [u8], at: usize, start: u32, length: u32) {
+    bytes[at] = start as u8;
+    bytes[at + 1] = length as u8;
 }
 
-pub fn put_entry(card: &mut [u8], i: usize, [volume, saturation, start, length, p]: EntryFields) {
+pub fn put_entry(record: &mut [u8], i: usize, [volume, saturation, start, length, p]: EntryFields) {
     let at = ENTRIES_AT + ENTRY_BYTES * i;
-    put_u16(card, at + VOLUME_IN, volume);
-    put_u16(card, at + SATURATION_IN, saturation);
-    put_green(card, at + GREEN_IN, start, length);
-    put_u16(card, at + ON_GREEN_IN, p);
+    put_u16(record, at + VOLUME_IN, volume);
+    put_u16(record, at + SATURATION_IN, saturation);
+    put_green(record, at + GREEN_IN, start, length);
+    put_u16(record, at + ON_GREEN_IN, p);
 }
 
-pub fn put_exits(card: &mut [u8], exits: [u32; 4]) {
+pub fn put_exits(record: &mut [u8], exits: [u32; 4]) {
     for (j, exit) in exits.into_iter().enumerate() {
-        put_u16(card, EXITS_AT + 2 * j, exit);
+        put_u16(record, EXITS_AT + 2 * j, exit);
     }
 }
 
-pub fn put_downstream(card: &mut [u8], greens: [(u32, u32); 3]) {
+pub fn put_downstream(record: &mut [u8], greens: [(u32, u32); 3]) {
     for (j, (start, length)) in greens.into_iter().enumerate() {
-        put_green(card, DOWNSTREAM_AT + 2 * j, start, length);
+        put_green(record, DOWNSTREAM_AT + 2 * j, start, length);
     }
 }
 
-pub fn put_seeds(card: &mut [u8], seeds: &Seeds) {
-    card[SEEDS_AT..].copy_from_slice(&seeds.concat());
+pub fn put_seeds(record: &mut [u8], seeds: &Seeds) {
+    record[SEEDS_AT..].copy_from_slice(&seeds.concat());
 }
 
 /// A record in range with no volume and no green at all.
-pub fn quiet(cycle: u32) -> Card {
-    let mut card = [0; RECORD_BYTES];
-    put_u32(&mut card, NUMBER_AT, 1);
-    put_u16(&mut card, CYCLE_AT, cycle);
-    put_u32(&mut card, RUNNING_TIME_AT, 40000);
-    put_u16(&mut card, HEADWAY_AT, 4100);
-    card
+pub fn quiet(cycle: u32) -> RecordBytes {
+    let mut record = [0; RECORD_BYTES];
+    put_u32(&mut record, NUMBER_AT, 1);
+    put_u16(&mut record, CYCLE_AT, cycle);
+    put_u32(&mut record, RUNNING_TIME_AT, 40000);
+    put_u16(&mut record, HEADWAY_AT, 4100);
+    record
 }
 
 /// A record that the working accepts, with volume everywhere; greens fit 29 steps.
-pub fn busy(cycle: u32) -> Card {
-    let mut card = quiet(cycle);
-    put_entry(&mut card, 0, [200, 1800, 2, 8, 400]);
-    put_entry(&mut card, 1, [700, 3600, 10, 12, 600]);
-    put_entry(&mut card, 2, [150, 1700, 22, 9, 333]);
-    put_u16(&mut card, ACCESS_AT, 120);
-    put_exits(&mut card, [150, 800, 200, 20]);
-    put_downstream(&mut card, [(3, 9), (8, 14), (25, 20)]);
-    card
+pub fn busy(cycle: u32) -> RecordBytes {
+    let mut record = quiet(cycle);
+    put_entry(&mut record, 0, [200, 1800, 2, 8, 400]);
+    put_entry(&mut record, 1, [700, 3600, 10, 12, 600]);
+    put_entry(&mut record, 2, [150, 1700, 22, 9, 333]);
+    put_u16(&mut record, ACCESS_AT, 120);
+    put_exits(&mut record, [150, 800, 200, 20]);
+    put_downstream(&mut record, [(3, 9), (8, 14), (25, 20)]);
+    record
 }
 
 /// A random record in range.
-pub fn random_card(random: &mut Random, cycle: u32) -> Card {
-    let mut card = quiet(cycle);
-    put_u32(&mut card, NUMBER_AT, random.draw() as u32);
+pub fn random_record(random: &mut Random, cycle: u32) -> RecordBytes {
+    let mut record = quiet(cycle);
+    put_u32(&mut record, NUMBER_AT, random.draw() as u32);
     let running_time = random.with_ends(1000, 300_000);
-    put_u32(&mut card, RUNNING_TIME_AT, running_time);
-    put_u16(&mut card, HEADWAY_AT, random.with_ends(1000, 10000));
+    put_u32(&mut record, RUNNING_TIME_AT, running_time);
+    put_u16(&mut record, HEADWAY_AT, random.with_ends(1000, 10000));
     for i in 0..3 {
         let entry = random_entry(random, cycle);
-        put_entry(&mut card, i, entry);
+        put_entry(&mut record, i, entry);
     }
     let access = if random.one_in(4) {
         0
     } else {
         random.with_ends(1, 1500)
     };
-    put_u16(&mut card, ACCESS_AT, access);
+    put_u16(&mut record, ACCESS_AT, access);
     let green = |r: &mut Random| (r.with_ends(0, cycle - 1), r.with_ends(0, cycle));
-    put_downstream(&mut card, [green(random), green(random), green(random)]);
-    put_seeds(&mut card, &random_seeds(random));
-    let exits = random_exits(random, &card);
-    put_exits(&mut card, exits);
-    card
+    put_downstream(&mut record, [green(random), green(random), green(random)]);
+    put_seeds(&mut record, &random_seeds(random));
+    let exits = random_exits(random, &record);
+    put_exits(&mut record, exits);
+    record
 }
 
 fn random_entry(random: &mut Random, cycle: u32) -> EntryFields {
@@ -136,8 +136,8 @@ pub fn random_row(random: &mut Random) -> [u8; 4] {
 }
 
 /// Exit volumes near to what the seeds give, or any at all in one of six.
-fn random_exits(random: &mut Random, card: &Card) -> [u32; 4] {
-    let record = decode(card).expect("fields are in range");
+fn random_exits(random: &mut Random, bytes: &RecordBytes) -> [u32; 4] {
+    let record = decode(bytes).expect("fields are in range");
     let volumes = discharge_volumes(&record);
     if random.one_in(6) {
         return [(); 4].map(|_| random.with_ends(0, 12000));

@@ -73,17 +73,28 @@ fn fill(
 ) {
     let cycle = record.cycle as usize;
     let shift = arrival_time(record.running_time);
-    for (run, access) in output.chunks_exact_mut(cycle).zip(decision.flows[ACCESS]) {
-        run.fill(access);
-    }
+    fill_access(&decision.flows[ACCESS], cycle, output);
     let mut leaving = [0; CYCLE_MOST as usize];
     let leaving = &mut leaving[..cycle];
     for (i, entry) in record.entries.iter().enumerate() {
         fill_discharge(entry, leaving);
         let arrivals = disperse(leaving, record.running_time, first, second);
-        for (run, flow) in output.chunks_exact_mut(cycle).zip(decision.flows[i]) {
-            add_pair(arrivals, flow, decision.volumes[i], shift, run);
-        }
+        let (flows, volume) = (&decision.flows[i], decision.volumes[i]);
+        add_entry(arrivals, flows, volume, shift, output);
+    }
+}
+
+/// Fills the run of each exit with its flow from access, the same in every step.
+fn fill_access(flows: &[u32; 4], cycle: usize, output: &mut [u32]) {
+    for (run, &flow) in output.chunks_exact_mut(cycle).zip(flows) {
+        run.fill(flow);
+    }
+}
+
+/// Adds one entry's arrivals to the run of each exit, shared by its pair flows.
+fn add_entry(arrivals: &[u32], flows: &[u32; 4], volume: u32, shift: u32, output: &mut [u32]) {
+    for (run, &flow) in output.chunks_exact_mut(arrivals.len()).zip(flows) {
+        add_pair(arrivals, flow, volume, shift, run);
     }
 }
 

@@ -1,26 +1,22 @@
 //! Archives: adding, reading back, finding, refusals.
 
-use reference::archive::{add, find, read, title, EMPTY};
+use reference::archive::{add, find, read, title, Archive, EMPTY};
 use reference::random::Random;
-use reference::samples::{put_u32, Card};
+use reference::samples::{put_u32, RecordBytes};
 use reference::vectors::archive::write;
 
-type Filed = (Card, Vec<u8>);
+type Filed = (RecordBytes, Vec<u8>);
 
 fn random_records(random: &mut Random, count: usize) -> Vec<Filed> {
     let mut number = 0;
     let mut record = |_| {
-        let mut card = [0; 68];
-        card.copy_from_slice(&random.bytes(68));
+        let mut record = [0; 68];
+        record.copy_from_slice(&random.bytes(68));
         number += random.between(1, 5);
-        put_u32(&mut card, 0, number);
+        put_u32(&mut record, 0, number);
         let length = random.with_ends(0, 40);
-        (
-            card,
-            (0..length)
-                .map(|_| random.with_ends(32, 126) as u8)
-                .collect(),
-        )
+        let title = (0..length).map(|_| random.with_ends(32, 126) as u8);
+        (record, title.collect())
     };
     (0..count).map(&mut record).collect()
 }
@@ -28,14 +24,26 @@ fn random_records(random: &mut Random, count: usize) -> Vec<Filed> {
 /// The empty archive with the records added in order.
 fn added(records: &[Filed]) -> Vec<u8> {
     let mut archive = EMPTY.to_vec();
-    for (card, title) in records {
+    for (record, title) in records {
         let mut buffer = vec![0xaa; archive.len() + 71 + title.len() + 3];
-        let length = add(&archive, card, title, &mut buffer).unwrap();
+        let length = add(&archive, record, title, &mut buffer).unwrap();
         assert_eq!(buffer[length..], [0xaa; 3]);
         buffer.truncate(length);
         archive = buffer;
     }
     archive
+}
+
+/// Each record and title is found where it is filed.
+fn reads_back(bytes: &[u8], archive: &Archive, records: &[Filed]) {
+    for (i, (record, name)) in records.iter().enumerate() {
+        let place = archive.place(i);
+        assert_eq!(archive.record_at(place), record);
+        assert_eq!(archive.title_at(place), name);
+        let number = archive.number_at(place);
+        assert_eq!(find(bytes, number), Ok(place));
+        assert_eq!(title(bytes, number), name);
+    }
 }
 
 #[test]
@@ -47,14 +55,7 @@ fn adding_reads_back() {
         assert_eq!(archive, write(&records));
         let reading = read(&archive).unwrap();
         assert_eq!(reading.count(), count);
-        for (i, (card, name)) in records.iter().enumerate() {
-            let place = reading.place(i);
-            assert_eq!(reading.record_at(place), card);
-            assert_eq!(reading.title_at(place), name);
-            let number = reading.number_at(place);
-            assert_eq!(find(&archive, number), Ok(place));
-            assert_eq!(title(&archive, number), name);
-        }
+        reads_back(&archive, &reading, &records);
         assert_eq!(find(&archive, 0), Err(6));
         assert_eq!(find(&archive, u32::MAX), Err(6));
         assert!(title(&archive, 0).is_empty());
@@ -73,9 +74,9 @@ fn what_reads_is_what_adding_writes() {
         bytes[at] = random.draw() as u8;
         let Ok(archive) = read(&bytes) else { continue };
         let filed = |place| {
-            let mut card = [0; 68];
-            card.copy_from_slice(archive.record_at(place));
-            (card, archive.title_at(place).to_vec())
+            let mut record = [0; 68];
+            record.copy_from_slice(archive.record_at(place));
+            (record, archive.title_at(place).to_vec())
         };
         assert_eq!(
             added(&archive.records().map(filed).collect::<Vec<Filed>>()),
@@ -97,14 +98,14 @@ fn full_archive() {
     assert_eq!(full.len(), 56838);
     assert_eq!(read(&full).unwrap().count(), 512);
     assert_eq!(read(&write(&records)).unwrap_err(), 2);
-    let (card, title) = &records[512];
+    let (record, title) = &records[512];
     let mut buffer = vec![1; 56838 + 111];
-    assert_eq!(add(&full, card, title, &mut buffer), Err(18));
-    assert_eq!(add(&full, card, title, &mut buffer[1..]), Err(17));
+    assert_eq!(add(&full, record, title, &mut buffer), Err(18));
+    assert_eq!(add(&full, record, title, &mut buffer[1..]), Err(17));
     assert_eq!(add(&full, &records[511].0, title, &mut []), Err(5));
-    assert_eq!(add(&full, card, &[31], &mut []), Err(4));
-    assert_eq!(add(&full, &card[..67], &[31], &mut []), Err(6));
-    assert_eq!(add(&full[1..], &card[..67], &[31], &mut []), Err(2));
+    assert_eq!(add(&full, record, &[31], &mut []), Err(4));
+    assert_eq!(add(&full, &record[..67], &[31], &mut []), Err(6));
+    assert_eq!(add(&full[1..], &record[..67], &[31], &mut []), Err(2));
     assert!(buffer.iter().all(|&byte| byte == 1));
 }
 
@@ -116,16 +117,14 @@ fn precedence_in_the_body() {
     let four: Change = |records| records[0].1 = vec![127];
     let five: Change = |records| put_u32(&mut records[0].0, 0, 0);
     let good = random_records(&mut Random::new(34), 3);
-    let cases: [(&[Change], Option<u32>); 5] = [
-        (&[], None),
-        (&[five], Some(5)),
-        (&[five, four], Some(4)),
-        (&[five, three], Some(3)),
-        (&[five, four, three], Some(3)),
-    ];
-    for (changes, number) in cases {
+    let number = |changes: &[Change]| {
         let mut records = good.clone();
         changes.iter().for_each(|change| change(&mut records));
-        assert_eq!(read(&write(&records)).err(), number);
-    }
+        read(&write(&records)).err()
+    };
+    assert_eq!(number(&[]), None);
+    assert_eq!(number(&[five]), Some(5));
+    assert_eq!(number(&[five, four]), Some(4));
+    assert_eq!(number(&[five, three]), Some(3));
+    assert_eq!(number(&[five, four, three]), Some(3));
 }

@@ -1,6 +1,6 @@
 //! The balance: stored cases, orders of operations, rows of pair flows.
 
-use reference::balance::{balance, check_volumes, pair_flows, Outcome, ROUND_LIMIT};
+use reference::balance::{balance, check_volumes, pair_flows, Four, Outcome, ROUND_LIMIT};
 use reference::random::Random;
 use reference::record::{ACCESS, DEFAULT_SEEDS, LEFT, RIGHT, THROUGH};
 use reference::samples::random_row;
@@ -92,6 +92,20 @@ fn two_writings_agree() {
     }
 }
 
+fn check_rows(discharge: &[u32; 4], cells: &[Four; 4]) {
+    for (i, row) in pair_flows(discharge, cells).iter().enumerate() {
+        check_row(row, discharge[i], &cells[i]);
+    }
+}
+
+fn check_row(row: &[u32; 4], discharge: u32, cells: &Four) {
+    assert_eq!(row.iter().sum::<u32>(), 1000 * discharge);
+    let units = |j: usize| cells[j] * 1000.0;
+    let mut others = [LEFT, RIGHT, ACCESS].into_iter();
+    assert!(others.all(|j| f64::from(row[j]) <= units(j)));
+    assert!(f64::from(row[THROUGH]) >= units(THROUGH) - 1.0);
+}
+
 /// Rows add to 1000·O and follow the cells.
 #[test]
 fn rows_of_pair_flows() {
@@ -102,13 +116,7 @@ fn rows_of_pair_flows() {
             continue;
         }
         let cells = balance(&discharge, &exits, &seeds, ROUND_LIMIT).cells;
-        for (i, row) in pair_flows(&discharge, &cells).iter().enumerate() {
-            assert_eq!(row.iter().sum::<u32>(), 1000 * discharge[i]);
-            for j in [LEFT, RIGHT, ACCESS] {
-                assert!(f64::from(row[j]) <= cells[i][j] * 1000.0);
-            }
-            assert!(f64::from(row[THROUGH]) >= cells[i][THROUGH] * 1000.0 - 1.0);
-        }
+        check_rows(&discharge, &cells);
     }
 }
 

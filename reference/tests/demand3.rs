@@ -4,11 +4,11 @@ use reference::discharge::discharge;
 use reference::exact::{check_demand_3, Worked};
 use reference::random::Random;
 use reference::record::{decode, RUNNING_TIME_AT};
-use reference::samples::{busy, put_u32, random_card, Card};
+use reference::samples::{busy, put_u32, random_record, RecordBytes};
 use reference::working::{work, Working};
 
 struct Run {
-    card: Card,
+    bytes: RecordBytes,
     working: Working,
     output: Vec<u32>,
     first: Vec<u32>,
@@ -16,14 +16,14 @@ struct Run {
 }
 
 /// The working of a record with longer profiles, if it is accepted.
-fn run(card: &Card, cycle: u32) -> Option<Run> {
+fn run(record: &RecordBytes, cycle: u32) -> Option<Run> {
     let steps = cycle as usize;
     let mut output = vec![3; 4 * steps + 2];
     let (mut first, mut second) = (vec![1; steps + 1], vec![2; steps]);
-    let working = work(card, &mut output, &mut first, &mut second).ok()?;
+    let working = work(record, &mut output, &mut first, &mut second).ok()?;
     assert_eq!((output[4 * steps], first[steps]), (3, 1));
     Some(Run {
-        card: *card,
+        bytes: *record,
         working,
         output,
         first,
@@ -33,7 +33,7 @@ fn run(card: &Card, cycle: u32) -> Option<Run> {
 
 impl Run {
     fn check(&self) -> Result<(), String> {
-        let record = decode(&self.card).unwrap();
+        let record = decode(&self.bytes).unwrap();
         check_demand_3(&Worked {
             record: &record,
             working: &self.working,
@@ -50,12 +50,12 @@ fn check_random(seed: u64, count: u32, least: u32, most: u32, running_time: Opti
     let mut checked = 0;
     while checked < count {
         let cycle = random.between(least, most);
-        let mut card = random_card(&mut random, cycle);
+        let mut record = random_record(&mut random, cycle);
         if let Some(time) = running_time {
-            put_u32(&mut card, RUNNING_TIME_AT, time);
+            put_u32(&mut record, RUNNING_TIME_AT, time);
         }
-        if let Some(run) = run(&card, cycle) {
-            assert_eq!(run.check(), Ok(()), "{card:?}");
+        if let Some(run) = run(&record, cycle) {
+            assert_eq!(run.check(), Ok(()), "{record:?}");
             checked += 1;
         }
     }
@@ -96,7 +96,7 @@ fn the_check_can_fail() {
 fn undispersed_fails() {
     let mut run = run(&busy(30), 30).unwrap();
     let mut leaving = [0; 90];
-    discharge(&run.card, &mut leaving).unwrap();
+    discharge(&run.bytes, &mut leaving).unwrap();
     let flows = run.working.flows;
     for (n, place) in run.output[..120].iter_mut().enumerate() {
         let (j, step) = (n / 30, (n % 30 + 60 - 34) % 30);

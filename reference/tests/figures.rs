@@ -4,41 +4,41 @@ use reference::archive::{add, EMPTY};
 use reference::arrivals::{blocked, PairShare};
 use reference::balance::{balance, check_volumes, Outcome, ROUND_LIMIT};
 use reference::discharge::{discharge, received_by};
-use reference::dispersion::{arrival_time, Street};
+use reference::dispersion::{arrival_time, Link};
 use reference::greens::{Green, Post, Step};
 use reference::metering::capacity;
 use reference::record::{Seeds, DEFAULT_SEEDS};
 use reference::report::report;
 use reference::working::work;
 
-/// A card at the paper's offsets: number 1, C 60, r 40000, h 4100, all else 0.
-fn plain_card() -> [u8; 68] {
-    let mut card = [0; 68];
-    card[0] = 1;
-    card[4] = 60;
-    card[6..10].copy_from_slice(&[0x40, 0x9c, 0, 0]);
-    card[10..12].copy_from_slice(&[0x04, 0x10]);
-    card
+/// A record at the paper's offsets: number 1, C 60, r 40000, h 4100, all else 0.
+fn plain_record() -> [u8; 68] {
+    let mut record = [0; 68];
+    record[0] = 1;
+    record[4] = 60;
+    record[6..10].copy_from_slice(&[0x40, 0x9c, 0, 0]);
+    record[10..12].copy_from_slice(&[0x04, 0x10]);
+    record
 }
 
-fn put(card: &mut [u8; 68], at: usize, value: u16) {
-    card[at..at + 2].copy_from_slice(&value.to_le_bytes());
+fn put(record: &mut [u8; 68], at: usize, value: u16) {
+    record[at..at + 2].copy_from_slice(&value.to_le_bytes());
 }
 
 /// Volume 600, saturation 1800, green 0 and 30, P 500 at entry `i`.
 fn with_entry(i: usize) -> [u8; 68] {
-    let mut card = plain_card();
+    let mut record = plain_record();
     let at = 12 + 8 * i;
-    put(&mut card, at, 600);
-    put(&mut card, at + 2, 1800);
-    card[at + 5] = 30;
-    put(&mut card, at + 6, 500);
-    card
+    put(&mut record, at, 600);
+    put(&mut record, at + 2, 1800);
+    record[at + 5] = 30;
+    put(&mut record, at + 6, 500);
+    record
 }
 
-fn worked_number(card: &[u8]) -> u32 {
+fn worked_number(record: &[u8]) -> u32 {
     let (mut output, mut first, mut second) = ([0; 240], [0; 60], [0; 60]);
-    work(card, &mut output, &mut first, &mut second).map_or_else(|refused| refused.number, |_| 0)
+    work(record, &mut output, &mut first, &mut second).map_or_else(|refused| refused.number, |_| 0)
 }
 
 #[test]
@@ -86,13 +86,13 @@ fn discharge_of_the_example() {
 
 #[test]
 fn first_two_arrivals() {
-    let mut street = Street::empty(40000);
-    assert_eq!((street.step(1_800_000), street.carry), (263_350, 1_375_000));
-    assert_eq!((street.step(1_800_000), street.carry), (488_171, 607_500));
-    let mut card = with_entry(2);
-    put(&mut card, 40, 600);
+    let mut link = Link::empty(40000);
+    assert_eq!((link.step(1_800_000), link.carry), (263_350, 1_375_000));
+    assert_eq!((link.step(1_800_000), link.carry), (488_171, 607_500));
+    let mut record = with_entry(2);
+    put(&mut record, 40, 600);
     let (mut output, mut first, mut second) = ([0; 240], [0; 60], [0; 60]);
-    work(&card, &mut output, &mut first, &mut second).unwrap();
+    work(&record, &mut output, &mut first, &mut second).unwrap();
     assert_eq!(first[..2], [263_350, 488_171]);
 }
 
@@ -113,10 +113,10 @@ fn blocked_above_the_edge() {
 #[test]
 fn archives() {
     assert_eq!(EMPTY, [0, 0, 0, 0, 68, 82]);
-    let card = plain_card();
+    let record = plain_record();
     let mut buffer = [9; 80];
-    assert_eq!(add(&EMPTY, &card, b"", &mut buffer), Ok(77));
-    assert_eq!(buffer[..68], card);
+    assert_eq!(add(&EMPTY, &record, b"", &mut buffer), Ok(77));
+    assert_eq!(buffer[..68], record);
     assert_eq!(buffer[68..], [0, 0, 0, 1, 0, 69, 0, 68, 82, 9, 9, 9]);
 }
 
@@ -137,27 +137,27 @@ fn unsettled_and_unserved() {
     let access = [0, 0, 0, 90];
     assert_eq!(check_volumes(&access, &access, &DEFAULT_SEEDS), Err(14));
 
-    let mut card = plain_card();
-    put(&mut card, 20, 10);
-    put(&mut card, 22, 1800);
-    card[25] = 60;
-    put(&mut card, 36, 90);
-    put(&mut card, 40, 10);
-    put(&mut card, 44, 90);
-    assert_eq!(worked_number(&card), 15);
-    put(&mut card, 20, 0);
-    put(&mut card, 40, 0);
-    assert_eq!(worked_number(&card), 14);
+    let mut record = plain_record();
+    put(&mut record, 20, 10);
+    put(&mut record, 22, 1800);
+    record[25] = 60;
+    put(&mut record, 36, 90);
+    put(&mut record, 40, 10);
+    put(&mut record, 44, 90);
+    assert_eq!(worked_number(&record), 15);
+    put(&mut record, 20, 0);
+    put(&mut record, 40, 0);
+    assert_eq!(worked_number(&record), 14);
 }
 
 #[test]
 fn printed_example() {
-    let mut card = plain_card();
-    put(&mut card, 36, 360);
-    put(&mut card, 40, 360);
-    card[49] = 30;
+    let mut record = plain_record();
+    put(&mut record, 36, 360);
+    put(&mut record, 40, 360);
+    record[49] = 30;
     let mut archive = [0; 77];
-    add(&EMPTY, &card, b"", &mut archive).unwrap();
+    add(&EMPTY, &record, b"", &mut archive).unwrap();
     let mut text = Vec::new();
     report(&archive, &mut text);
     let expected = "card 1 cycle 60 shift 34 rounds 1

@@ -23,24 +23,24 @@ fn lengths() {
     }
 }
 
+fn check_faults(cycle: u32) {
+    for fault in faults(cycle) {
+        let record = fault.applied(busy(cycle));
+        assert_eq!(decode(&record), Err(fault.number), "{fault:?}");
+    }
+}
+
 #[test]
 fn each_fault_alone() {
-    for cycle in [30, 77, 240] {
-        for fault in faults(cycle) {
-            let mut card = busy(cycle);
-            fault.apply(&mut card);
-            assert_eq!(decode(&card), Err(fault.number), "{fault:?}");
-        }
-    }
+    [30, 77, 240].into_iter().for_each(check_faults);
 }
 
 #[test]
 fn the_lower_of_two() {
     for pair in fault_pairs(30) {
-        let mut card = busy(30);
-        pair.iter().for_each(|fault| fault.apply(&mut card));
+        let record = pair[1].applied(pair[0].applied(busy(30)));
         assert_eq!(
-            decode(&card),
+            decode(&record),
             Err(pair[0].number.min(pair[1].number)),
             "{pair:?}"
         );
@@ -51,7 +51,7 @@ fn the_lower_of_two() {
 #[test]
 fn own_seeds() {
     let seeds = [[100, 0, 0, 0], [0, 0, 0, 100], [1, 1, 1, 97], [25; 4]];
-    let mut card = busy(30);
-    put_seeds(&mut card, &seeds);
-    assert_eq!(decode(&card).map(|record| record.seeds), Ok(seeds));
+    let mut record = busy(30);
+    put_seeds(&mut record, &seeds);
+    assert_eq!(decode(&record).map(|record| record.seeds), Ok(seeds));
 }

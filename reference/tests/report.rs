@@ -5,7 +5,7 @@ use std::process::{Command, Stdio};
 
 use reference::random::Random;
 use reference::report::report;
-use reference::samples::{busy, put_u32, random_card};
+use reference::samples::{busy, put_u32, random_record};
 use reference::vectors::archive::write;
 
 fn text(input: &[u8]) -> String {
@@ -33,11 +33,11 @@ fn empty_and_refused_archives() {
     assert_eq!(text(&[0, 0, 0, 0, 68, 82]), "");
     assert_eq!(text(&[]), "drawer refused 1\n");
     assert_eq!(text(&[1, 0, 0, 0, 68, 82]), "drawer refused 2\n");
-    let mut card = busy(30);
-    card[0] = 0;
-    assert_eq!(text(&write(&[(card, vec![])])), "drawer refused 5\n");
+    let mut record = busy(30);
+    record[0] = 0;
+    assert_eq!(text(&write(&[(record, vec![])])), "drawer refused 5\n");
     assert_eq!(
-        text(&write(&[(card, vec![b'a'; 41])])),
+        text(&write(&[(record, vec![b'a'; 41])])),
         "drawer refused 3\n"
     );
 }
@@ -53,7 +53,7 @@ fn long_input() {
 }
 
 #[test]
-fn refused_cards_among_others() {
+fn refused_records_among_others() {
     let mut first = busy(30);
     first[4] = 29;
     let mut second = busy(30);
@@ -71,9 +71,9 @@ fn program_prints_the_report() {
     let mut random = Random::new(51);
     let record = |number| {
         let cycle = random.between(30, 240);
-        let mut card = random_card(&mut random, cycle);
-        put_u32(&mut card, 0, number);
-        (card, vec![b'x'; number as usize % 41])
+        let mut record = random_record(&mut random, cycle);
+        put_u32(&mut record, 0, number);
+        (record, vec![b'x'; number as usize % 41])
     };
     let archive = write(&(1..=512).map(record).collect::<Vec<_>>());
     assert_eq!(printed(&archive), text(&archive));

@@ -1,10 +1,11 @@
 //! The vectors: read back by their formats and run again.
 
 use reference::archive;
-use reference::balance::{balance, check_volumes, pair_flows, Outcome, ROUND_LIMIT};
+use reference::balance::{balance, check_volumes, pair_flows, Four, Outcome, ROUND_LIMIT};
 use reference::discharge::discharge;
+use reference::record::Seeds;
 use reference::vectors::{all, buffer_before, profile_before};
-use reference::working::work;
+use reference::working::{work, Refused, Working};
 
 struct Reader<'a>(&'a [u8]);
 
@@ -41,9 +42,9 @@ impl<'a> Reader<'a> {
 
 fn discharge_agrees(body: &mut Reader) -> bool {
     let length = body.number(2) as usize;
-    let card = body.bytes(length);
+    let record = body.bytes(length);
     let mut profile = profile_before(3_000_000_000, body.number(2) as usize);
-    let result = discharge(card, &mut profile);
+    let result = discharge(record, &mut profile);
     body.word() == result.err().unwrap_or(0)
         && body.words(3) == result.unwrap_or([0; 3])
         && body.words(profile.len()) == profile
@@ -79,11 +80,11 @@ fn find_agrees(body: &mut Reader, bytes: &[u8]) -> bool {
 
 fn add_agrees(body: &mut Reader, bytes: &[u8]) -> bool {
     let length = body.count();
-    let card = body.bytes(length);
+    let record = body.bytes(length);
     let length = body.count();
     let title = body.bytes(length);
     let mut buffer = buffer_before(body.count());
-    let result = archive::add(bytes, card, title, &mut buffer);
+    let result = archive::add(bytes, record, title, &mut buffer);
     body.word() == result.err().unwrap_or(0)
         && body.count() == result.unwrap_or(0)
         && body.bytes(buffer.len()) == buffer
@@ -92,58 +93,41 @@ fn add_agrees(body: &mut Reader, bytes: &[u8]) -> bool {
 fn balance_agrees(body: &mut Reader) -> bool {
     let (volumes, exits) = (body.four(), body.four());
     let seeds = [(); 4].map(|_| body.bytes(4).try_into().unwrap());
-    let expected = match check_volumes(&volumes, &exits, &seeds) {
-        Err(number) => (u64::from(number), 2, 0, 0.0, [[0.0; 4]; 4]),
-        Ok(()) => {
-            let found = balance(&volumes, &exits, &seeds, ROUND_LIMIT);
-            let (number, outcome, sum) = match found.outcome {
-                Outcome::Settled(sum) => (0, 1, sum),
-                Outcome::Unsettled(sum) => (15, 0, sum),
-            };
-            (number, outcome, u64::from(found.rounds), sum, found.cells)
-        }
+    let (head, cells) = balanced(&volumes, &exits, &seeds);
+    let flows = match head[0] {
+        0 => pair_flows(&volumes, &cells).concat(),
+        _ => vec![0; 16],
     };
-    let head = [
-        body.number(4),
-        body.number(4),
-        body.number(4),
-        body.number(8),
-    ];
-    let cells = expected
-        .4
-        .concat()
-        .iter()
-        .all(|cell| body.number(8) == cell.to_bits());
-    let flows = pair_flows(&volumes, &expected.4).concat();
-    let flows = if expected.0 == 0 { flows } else { vec![0; 16] };
-    head == [expected.0, expected.1, expected.2, expected.3.to_bits()]
-        && cells
+    let cells = cells.concat();
+    [4, 4, 4, 8].map(|width| body.number(width)) == head
+        && cells.iter().all(|cell| body.number(8) == cell.to_bits())
         && body.words(16) == flows
+}
+
+/// Number of refusal, outcome, rounds and bits of the last sum; the cells.
+fn balanced(volumes: &[u32; 4], exits: &[u32; 4], seeds: &Seeds) -> ([u64; 4], [Four; 4]) {
+    if let Err(number) = check_volumes(volumes, exits, seeds) {
+        return ([u64::from(number), 2, 0, 0], [[0.0; 4]; 4]);
+    }
+    let found = balance(volumes, exits, seeds, ROUND_LIMIT);
+    let rounds = u64::from(found.rounds);
+    let head = match found.outcome {
+        Outcome::Settled(sum) => [0, 1, rounds, sum.to_bits()],
+        Outcome::Unsettled(sum) => [15, 0, rounds, sum.to_bits()],
+    };
+    (head, found.cells)
 }
 
 fn working_agrees(body: &mut Reader) -> bool {
     let length = body.number(2) as usize;
-    let card = body.bytes(length);
+    let record = body.bytes(length);
     let mut profiles = [3_000_000_000, 3_100_000_000, 3_200_000_000]
         .map(|start| profile_before(start, body.count()));
     let [output, first, second] = &mut profiles;
-    let result = work(card, output, first, second);
-    let mut numbers = vec![0; 31];
-    match result {
-        Err(refused) => {
-            numbers[0] = u64::from(refused.number);
-            numbers[1] = refused.last_sum.to_bits();
-        }
-        Ok(working) => {
-            numbers = vec![0, working.last_sum.to_bits()];
-            numbers.extend([working.shift, working.rounds].map(u64::from));
-            numbers.extend(working.flows.concat().into_iter().map(u64::from));
-            for exit in working.exits {
-                numbers.extend([exit.total, exit.green, u64::from(exit.permille)]);
-            }
-            numbers.extend([working.access_total, u64::from(working.blocked)]);
-        }
-    }
+    let numbers = match work(record, output, first, second) {
+        Err(refused) => refused_numbers(&refused),
+        Ok(working) => working_numbers(&working),
+    };
     let widths = [&[4, 8][..], &[4; 18], &[8, 8, 4, 8, 8, 4, 8, 8, 4, 8, 4]].concat();
     let agrees = widths
         .iter()
@@ -154,6 +138,24 @@ fn working_agrees(body: &mut Reader) -> bool {
         && profiles
             .iter()
             .all(|profile| body.words(profile.len()) == *profile)
+}
+
+fn refused_numbers(refused: &Refused) -> Vec<u64> {
+    let mut numbers = vec![0; 31];
+    numbers[0] = u64::from(refused.number);
+    numbers[1] = refused.last_sum.to_bits();
+    numbers
+}
+
+fn working_numbers(working: &Working) -> Vec<u64> {
+    let mut numbers = vec![0, working.last_sum.to_bits()];
+    numbers.extend([working.shift, working.rounds].map(u64::from));
+    numbers.extend(working.flows.concat().into_iter().map(u64::from));
+    for exit in working.exits {
+        numbers.extend([exit.total, exit.green, u64::from(exit.permille)]);
+    }
+    numbers.extend([working.access_total, u64::from(working.blocked)]);
+    numbers
 }
 
 /// The cases that differ; a case that agrees is read to its end.
@@ -214,9 +216,11 @@ fn every_refusal_is_met() {
         ],
     ];
     for ((name, file), labels) in all().iter().zip(labels) {
-        for &label in labels {
-            assert!(file.tally.contains_key(label), "{name} lacks {label}");
-        }
+        let lacking: Vec<&&str> = labels
+            .iter()
+            .filter(|&&label| !file.tally.contains_key(label))
+            .collect();
+        assert!(lacking.is_empty(), "{name} lacks {lacking:?}");
         assert_eq!(file.tally.len(), labels.len() + 1);
     }
 }

@@ -4,13 +4,16 @@
 
 use std::fs::{self, File};
 use std::io::{self, Write};
-use std::path::{Path, PathBuf};
+use std::ops::RangeInclusive;
+use std::path::Path;
 use std::process::{Command, ExitCode, Stdio};
 use std::time::{Duration, Instant};
 
-use reference::archive::add;
+use reference::archive::{add, EMPTY};
+use reference::balance::ROUND_LIMIT;
 use reference::random::Random;
-use reference::samples::{busy, put_u32, random_card, Card};
+use reference::record::{CYCLE_MOST, NUMBER_AT};
+use reference::samples::{busy, put_u32, random_record, RecordBytes};
 use reference::working::work;
 
 const RECORDS: usize = 512;
@@ -21,57 +24,63 @@ const SEED: u64 = 0x5e67_3e47;
 enum Kind {
     /// Settles in at most ten rounds.
     Few,
-    /// Takes more than thirty rounds, settling or not.
+    /// Settles in more than thirty rounds.
     Many,
     /// Is refused for its cycle.
     Refused,
 }
 
-fn fits(kind: Kind, card: &Card) -> bool {
+const KINDS: [(&str, Kind); 3] = [
+    ("few", Kind::Few),
+    ("many", Kind::Many),
+    ("refused", Kind::Refused),
+];
+
+/// The rounds of a record that is accepted.
+fn rounds(record: &RecordBytes) -> Option<u32> {
     let (mut output, mut first, mut second) = (vec![0; 960], vec![0; 240], vec![0; 240]);
-    let result = work(card, &mut output, &mut first, &mut second);
-    match (kind, result) {
-        (Kind::Few, Ok(working)) => working.rounds <= 10,
-        (Kind::Many, Ok(working)) => working.rounds > 30,
-        (Kind::Refused, Err(refused)) => refused.number == 7,
-        _ => false,
+    let result = work(record, &mut output, &mut first, &mut second);
+    result.ok().map(|working| working.rounds)
+}
+
+/// The next random record that settles in as many rounds as wanted.
+fn settling(random: &mut Random, cycle: u32, wanted: RangeInclusive<u32>) -> RecordBytes {
+    loop {
+        let record = random_record(random, cycle);
+        if rounds(&record).is_some_and(|rounds| wanted.contains(&rounds)) {
+            return record;
+        }
     }
 }
 
-fn record(random: &mut Random, kind: Kind, cycle: u32) -> Card {
-    if let Kind::Refused = kind {
-        return busy(241);
-    }
-    loop {
-        let card = random_card(random, cycle);
-        if fits(kind, &card) {
-            return card;
-        }
+fn record(random: &mut Random, kind: Kind, cycle: u32) -> RecordBytes {
+    match kind {
+        Kind::Few => settling(random, cycle, 1..=10),
+        Kind::Many => settling(random, cycle, 31..=ROUND_LIMIT),
+        Kind::Refused => busy(CYCLE_MOST + 1),
     }
 }
 
 fn archive(kind: Kind, cycle: u32, records: usize) -> Vec<u8> {
     let mut random = Random::new(SEED);
-    let mut archive = vec![0, 0, 0, 0, 68, 82];
+    let mut archive = EMPTY.to_vec();
     // a record that takes many rounds is rare, so a few are used again and again
-    let kept: Vec<Card> = (0..16).map(|_| record(&mut random, kind, cycle)).collect();
+    let kept = [(); 16].map(|_| record(&mut random, kind, cycle));
     for n in 0..records {
-        let mut card = kept[n % kept.len()];
-        put_u32(&mut card, 0, n as u32 + 1);
+        let mut record = kept[n % kept.len()];
+        put_u32(&mut record, NUMBER_AT, n as u32 + 1);
         let mut buffer = vec![0; archive.len() + 71];
-        let length = add(&archive, &card, b"", &mut buffer).unwrap_or_else(|_| panic!("adding"));
-        buffer.truncate(length);
+        add(&archive, &record, b"", &mut buffer).expect("an archive with room");
         archive = buffer;
     }
     archive
 }
 
 fn print_archive(arguments: &[String]) {
-    let kind = match arguments[0].as_str() {
-        "few" => Kind::Few,
-        "many" => Kind::Many,
-        _ => Kind::Refused,
-    };
+    let (_, kind) = *KINDS
+        .iter()
+        .find(|(name, _)| *name == arguments[0])
+        .expect("few, many or refused");
     let cycle = arguments[1].parse().expect("CYCLE");
     let records = arguments[2].parse().expect("RECORDS");
     io::stdout()
@@ -99,11 +108,38 @@ fn median(mut times: Vec<Duration>) -> f64 {
 fn side_by_side(programs: [&Path; 2], input: &Path, repeats: usize) -> [f64; 2] {
     let mut times = [Vec::new(), Vec::new()];
     for _ in 0..repeats {
-        for (program, times) in programs.iter().zip(&mut times) {
-            times.push(once(program, input));
-        }
+        times[0].push(once(programs[0], input));
+        times[1].push(once(programs[1], input));
     }
     times.map(median)
+}
+
+/// A line of the table: records, cycle, name and kind of the archive.
+type Line = (usize, u32, &'static str, Kind);
+
+fn lines() -> Vec<Line> {
+    let full = |(name, kind)| [60, 120, 240].map(|cycle| (RECORDS, cycle, name, kind));
+    let shorter = [64, 128, 256].map(|records| (records, 120, "few", Kind::Few));
+    let mut lines = vec![(0, 60, "empty", Kind::Few)];
+    lines.extend(KINDS.into_iter().flat_map(full));
+    lines.extend(shorter);
+    lines
+}
+
+fn print_table(programs: [&Path; 2], repeats: usize) {
+    let directory = std::env::temp_dir().join("segment-bench");
+    fs::create_dir_all(&directory).expect("a folder for the archives");
+    let input = directory.join("archive");
+    println!("records cycle  kind     product ms  reference ms  ratio");
+    for (records, cycle, name, kind) in lines() {
+        fs::write(&input, archive(kind, cycle, records)).expect("the archive");
+        let [product, reference] = side_by_side(programs, &input, repeats);
+        println!(
+            "{records:7} {cycle:5}  {name:8} {product:10.2} {reference:13.2} {:6.2}",
+            product / reference
+        );
+    }
+    fs::remove_dir_all(&directory).ok();
 }
 
 fn main() -> ExitCode {
@@ -117,28 +153,7 @@ fn main() -> ExitCode {
         return ExitCode::SUCCESS;
     }
     let repeats = arguments.get(3).map_or(41, |n| n.parse().expect("REPEATS"));
-    let directory: PathBuf = std::env::temp_dir().join("segment-bench");
-    fs::create_dir_all(&directory).expect("a folder for the archives");
-    let input = directory.join("archive");
     let programs = [Path::new(&arguments[1]), Path::new(&arguments[2])];
-    println!("records cycle  kind     product ms  reference ms  ratio");
-    let kinds = [("few", Kind::Few), ("many", Kind::Many), ("refused", Kind::Refused)];
-    let mut rows: Vec<(usize, u32, &str, Kind)> = Vec::new();
-    rows.push((0, 60, "empty", Kind::Few));
-    for (name, kind) in kinds {
-        for cycle in [60, 120, 240] {
-            rows.push((RECORDS, cycle, name, kind));
-        }
-    }
-    rows.extend([64, 128, 256].map(|records| (records, 120, "few", Kind::Few)));
-    for (records, cycle, name, kind) in rows {
-        fs::write(&input, archive(kind, cycle, records)).expect("the archive");
-        let [product, reference] = side_by_side(programs, &input, repeats);
-        println!(
-            "{records:7} {cycle:5}  {name:8} {product:10.2} {reference:13.2} {:6.2}",
-            product / reference
-        );
-    }
-    fs::remove_dir_all(&directory).ok();
+    print_table(programs, repeats);
     ExitCode::SUCCESS
 }

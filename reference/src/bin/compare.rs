@@ -7,12 +7,13 @@ use std::process::{Child, Command, ExitCode, Stdio};
 use std::thread;
 
 use reference::random::Random;
+use reference::record::{CYCLE_AT, NUMBER_AT};
 use reference::report::{report, INPUT_MOST};
-use reference::samples::{busy, put_u16, put_u32, quiet, random_card, Card};
+use reference::samples::{busy, put_u16, put_u32, quiet, random_record, RecordBytes};
 use reference::vectors::archive::write;
 
 const SEED: u64 = 0xc033_9a4e;
-const ARCHIVES: u32 = 320;
+const ARCHIVES: usize = 320;
 
 fn start(program: &Path) -> Child {
     Command::new(program)
@@ -63,37 +64,38 @@ fn title(random: &mut Random) -> Vec<u8> {
     (0..length).map(|_| random.between(32, 126) as u8).collect()
 }
 
-fn card(random: &mut Random) -> Card {
+/// In range or not, accepted or not.
+fn any_record(random: &mut Random) -> RecordBytes {
     match random.below(8) {
         0 => busy(random.between(30, 240)),
         1 => quiet(random.between(30, 240)),
         2 => {
-            let mut card = busy(60);
-            put_u16(&mut card, 4, random.between(0, 60000));
-            card
+            let mut record = busy(60);
+            put_u16(&mut record, CYCLE_AT, random.between(0, 60000));
+            record
         }
         3 => {
-            let mut card = busy(60);
+            let mut record = busy(60);
             let at = random.between(4, 67) as usize;
-            card[at] = random.below(256) as u8;
-            card
+            record[at] = random.below(256) as u8;
+            record
         }
         _ => {
             let cycle = random.with_ends(30, 240);
-            random_card(random, cycle)
+            random_record(random, cycle)
         }
     }
 }
 
 /// Records with rising numbers, and one archive in four damaged somewhere.
-fn archive(random: &mut Random, records: u32) -> Vec<u8> {
+fn archive(random: &mut Random, records: usize) -> Vec<u8> {
     let mut number = 0;
-    let filed: Vec<(Card, Vec<u8>)> = (0..records)
+    let filed: Vec<(RecordBytes, Vec<u8>)> = (0..records)
         .map(|_| {
             number += random.between(1, 9);
-            let mut card = card(random);
-            put_u32(&mut card, 0, number);
-            (card, title(random))
+            let mut record = any_record(random);
+            put_u32(&mut record, NUMBER_AT, number);
+            (record, title(random))
         })
         .collect();
     let mut bytes = write(&filed);
@@ -106,12 +108,22 @@ fn archive(random: &mut Random, records: u32) -> Vec<u8> {
 
 fn inputs() -> Vec<Vec<u8>> {
     let mut random = Random::new(SEED);
-    let mut inputs: Vec<Vec<u8>> = (0..ARCHIVES).map(|n| archive(&mut random, n % 24)).collect();
+    let mut inputs: Vec<Vec<u8>> = (0..ARCHIVES)
+        .map(|n| archive(&mut random, n % 24))
+        .collect();
     inputs.push(archive(&mut random, 511));
     inputs.push(archive(&mut random, 512));
     inputs.push(write(&[]));
     inputs.push(Vec::new());
-    for length in [1, 5, 6, INPUT_MOST - 1, INPUT_MOST, INPUT_MOST + 1, 3 * INPUT_MOST] {
+    for length in [
+        1,
+        5,
+        6,
+        INPUT_MOST - 1,
+        INPUT_MOST,
+        INPUT_MOST + 1,
+        3 * INPUT_MOST,
+    ] {
         inputs.push(random.bytes(length));
     }
     // more than is read, with a whole archive at its end
@@ -137,7 +149,8 @@ fn main() -> ExitCode {
             differing += 1;
         }
     }
-    ends_unread(program, &inputs[inputs.len() - 12]);
+    // the archive of 511 records, whose text is long
+    ends_unread(program, &inputs[ARCHIVES]);
     println!("{} inputs, {differing} differ", inputs.len());
     ExitCode::from(u8::from(differing > 0))
 }

@@ -15,6 +15,12 @@ fn write(directory: &Path, file: &File) -> io::Result<usize> {
     Ok(bytes.len())
 }
 
+fn print_tally(file: &File) {
+    for (label, count) in &file.tally {
+        println!("  {label}: {count}");
+    }
+}
+
 fn main() -> io::Result<ExitCode> {
     let Some(directory) = std::env::args_os().nth(1) else {
         eprintln!("usage: vectors DIR");
@@ -23,9 +29,7 @@ fn main() -> io::Result<ExitCode> {
     for (name, file) in all() {
         let bytes = write(&Path::new(&directory).join(name), &file)?;
         println!("{name}: {} cases, {bytes} bytes", file.len());
-        for (label, count) in &file.tally {
-            println!("  {label}: {count}");
-        }
+        print_tally(&file);
     }
     Ok(ExitCode::SUCCESS)
 }

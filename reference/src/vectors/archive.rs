@@ -1,10 +1,10 @@
 //! Vectors of reading, finding and adding.
 
-use super::{buffer_before, Body, File};
-use crate::archive::{add, find, read, title, COUNT_MOST, EMPTY, MARK, TITLE_MOST};
+use super::{buffer_before, product, Body, File};
+use crate::archive::{add, find, read, title, COUNT_MOST, EMPTY, MARK, TITLE_MOST, TRAILER_END};
 use crate::random::Random;
-use crate::record::RECORD_BYTES;
-use crate::samples::{put_u32, Card};
+use crate::record::{NUMBER_AT, RECORD_BYTES};
+use crate::samples::{put_u32, RecordBytes};
 
 const SEED: u64 = 0x0101_a2c4;
 
@@ -13,13 +13,15 @@ const FIND: u8 = 2;
 const ADD: u8 = 3;
 
 /// A record with its title.
-type Filed = (Card, Vec<u8>);
+type Filed = (RecordBytes, Vec<u8>);
+type Change = fn(&mut Vec<Filed>);
 
 pub fn file() -> File {
     let mut file = File::default();
     let mut random = Random::new(SEED);
     add_good(&mut file, &mut random);
-    add_titles(&mut file, &mut random);
+    add_title_lengths(&mut file, &mut random);
+    add_title_bytes(&mut file, &mut random);
     add_full(&mut file, &mut random);
     add_bad_ends(&mut file, &mut random);
     add_bad_bodies(&mut file, &mut random);
@@ -36,9 +38,9 @@ pub fn file() -> File {
 pub fn write(filed: &[Filed]) -> Vec<u8> {
     let mut body = Vec::new();
     let mut places = Vec::new();
-    for (card, title) in filed {
+    for (record, title) in filed {
         places.extend((body.len() as u16).to_le_bytes());
-        body.extend(card);
+        body.extend(record);
         body.push(title.len() as u8);
         body.extend(title);
     }
@@ -51,11 +53,12 @@ fn end(body: Vec<u8>, places: &[u8], count: usize) -> Vec<u8> {
     [&body, places, &(count as u16).to_le_bytes(), &own, &MARK].concat()
 }
 
-fn card(random: &mut Random, number: u32) -> Card {
-    let mut card = [0; RECORD_BYTES];
-    card.copy_from_slice(&random.bytes(RECORD_BYTES));
-    put_u32(&mut card, 0, number);
-    card
+/// Any bytes but for the number.
+fn any_record(random: &mut Random, number: u32) -> RecordBytes {
+    let mut record = [0; RECORD_BYTES];
+    record.copy_from_slice(&random.bytes(RECORD_BYTES));
+    put_u32(&mut record, NUMBER_AT, number);
+    record
 }
 
 fn good_title(random: &mut Random, length: usize) -> Vec<u8> {
@@ -68,7 +71,7 @@ fn good_title(random: &mut Random, length: usize) -> Vec<u8> {
 fn filed(random: &mut Random, numbers: &[u32]) -> Vec<Filed> {
     let one = |&number: &u32| {
         let length = random.below(7) as usize;
-        (card(random, number), good_title(random, length))
+        (any_record(random, number), good_title(random, length))
     };
     numbers.iter().map(one).collect()
 }
@@ -92,7 +95,7 @@ fn read_case(archive: &[u8], off: usize) -> (u32, Body) {
     }
     body.word(number);
     body.count(places.len());
-    places.into_iter().for_each(|place| body.count(place));
+    body.counts(&places);
     (number, body)
 }
 
@@ -101,12 +104,12 @@ fn add_read(file: &mut File, archive: &[u8]) {
     file.push(format!("read {number}"), body);
 }
 
-fn add_find(file: &mut File, archive: &[u8], card_number: u32) {
+fn add_find(file: &mut File, archive: &[u8], record_number: u32) {
     let mut body = start(FIND, archive);
-    let result = find(archive, card_number);
+    let result = find(archive, record_number);
     let number = result.err().unwrap_or(0);
-    let title = title(archive, card_number);
-    body.word(card_number);
+    let title = title(archive, record_number);
+    body.word(record_number);
     body.word(number);
     body.count(result.unwrap_or(0));
     body.count(title.len());
@@ -114,13 +117,13 @@ fn add_find(file: &mut File, archive: &[u8], card_number: u32) {
     file.push(format!("find {number}"), body);
 }
 
-fn add_add(file: &mut File, archive: &[u8], card: &[u8], title: &[u8], room: usize) {
+fn add_add(file: &mut File, archive: &[u8], record: &[u8], title: &[u8], room: usize) {
     let mut body = start(ADD, archive);
     let mut buffer = buffer_before(room);
-    let result = add(archive, card, title, &mut buffer);
+    let result = add(archive, record, title, &mut buffer);
     let number = result.err().unwrap_or(0);
-    body.count(card.len());
-    body.bytes(card);
+    body.count(record.len());
+    body.bytes(record);
     body.count(title.len());
     body.bytes(title);
     body.count(room);
@@ -145,18 +148,22 @@ fn add_good(file: &mut File, random: &mut Random) {
     for numbers in lists {
         let archive = write(&filed(random, numbers));
         add_read(file, &archive);
-        let near = numbers
-            .iter()
-            .flat_map(|&n| [n, n.wrapping_add(1), n - 1])
-            .take(12);
-        for number in near.chain(numbers.last().copied()).chain([0, u32::MAX]) {
-            add_find(file, &archive, number);
-        }
+        add_finds(file, &archive, numbers);
     }
 }
 
-/// Titles of every length, with the bytes next to the range, filed and new.
-fn add_titles(file: &mut File, random: &mut Random) {
+fn add_finds(file: &mut File, archive: &[u8], numbers: &[u32]) {
+    let near = numbers
+        .iter()
+        .flat_map(|&n| [n, n.wrapping_add(1), n - 1])
+        .take(12);
+    for number in near.chain(numbers.last().copied()).chain([0, u32::MAX]) {
+        add_find(file, archive, number);
+    }
+}
+
+/// Filed titles of every length.
+fn add_title_lengths(file: &mut File, random: &mut Random) {
     for length in 0..=TITLE_MOST + 2 {
         let mut records = filed(random, &[4, 6]);
         records[0].1 = good_title(random, length);
@@ -164,29 +171,36 @@ fn add_titles(file: &mut File, random: &mut Random) {
         add_read(file, &archive);
         add_find(file, &archive, 4);
     }
-    for byte in [0, 31, 32, 126, 127, 255] {
-        for length in [1, 17, TITLE_MOST] {
-            for at in [0, length / 2, length - 1] {
-                let mut title = good_title(random, length);
-                title[at] = byte;
-                let mut records = filed(random, &[2, 3]);
-                records[at % 2].1 = title.clone();
-                add_find(file, &write(&records), 2 + (at as u32) % 2);
-                let new = card(random, 1);
-                add_add(file, &EMPTY, &new, &title, 77 + length);
-            }
-        }
+}
+
+/// Titles with a byte next to the range at their start, middle and end.
+fn add_title_bytes(file: &mut File, random: &mut Random) {
+    let places = |length: usize| [0, length / 2, length - 1].map(|at| (length, at));
+    let places = [1, 17, TITLE_MOST].map(places).concat();
+    for (byte, (length, at)) in product(&[0, 31, 32, 126, 127, 255], &places) {
+        let mut title = good_title(random, length);
+        title[at] = byte;
+        add_title(file, random, &title, at % 2);
     }
+}
+
+/// A title of filed record 0 or 1, then of a new one.
+fn add_title(file: &mut File, random: &mut Random, title: &[u8], of: usize) {
+    let mut records = filed(random, &[2, 3]);
+    records[of].1 = title.to_vec();
+    add_find(file, &write(&records), 2 + of as u32);
+    let new = any_record(random, 1);
+    add_add(file, &EMPTY, &new, title, 77 + title.len());
 }
 
 /// Archives of 511 and 512 records.
 fn add_full(file: &mut File, random: &mut Random) {
     let untitled: Vec<Filed> = (1..=COUNT_MOST as u32)
-        .map(|n| (card(random, 3 * n), Vec::new()))
+        .map(|n| (any_record(random, 3 * n), Vec::new()))
         .collect();
     let titled: Vec<Filed> = untitled
         .iter()
-        .map(|(card, _)| (*card, good_title(random, TITLE_MOST)))
+        .map(|(record, _)| (*record, good_title(random, TITLE_MOST)))
         .collect();
     let full = write(&untitled);
     add_read(file, &write(&titled));
@@ -194,7 +208,7 @@ fn add_full(file: &mut File, random: &mut Random) {
     for number in [3, 768, 1536, 1537] {
         add_find(file, &full, number);
     }
-    let new = card(random, 1537);
+    let new = any_record(random, 1537);
     add_add(file, &full, &new, b"", full.len() + 71);
     add_add(file, &full, &new, b"", full.len() + 70);
     add_add(file, &full, &untitled[0].0, b"", 0);
@@ -215,12 +229,29 @@ fn add_full(file: &mut File, random: &mut Random) {
 
 /// Refusals 1 and 2, alone and with others.
 fn add_bad_ends(file: &mut File, random: &mut Random) {
+    add_too_short(file);
+    let good = write(&filed(random, &[1, 2, 3]));
+    add_changed_ends(file, &good);
+    add_read(file, &end(Vec::new(), &[0; 2 * COUNT_MOST], COUNT_MOST));
+    add_read(
+        file,
+        &end(Vec::new(), &[0; 2 * COUNT_MOST + 2], COUNT_MOST + 1),
+    );
+    add_read(file, &[&[0], &good[..]].concat());
+    add_read(file, &[&good[..], &[0]].concat());
+    add_read(file, &[&good[..], &MARK].concat());
+    add_read(file, &[&good[..], &good[..]].concat());
+}
+
+/// Fewer than six bytes, with a right mark where it fits.
+fn add_too_short(file: &mut File) {
     for length in 0..6 {
         add_read(file, &[MARK, MARK, MARK].concat()[6 - length..]);
     }
-    let records = filed(random, &[1, 2, 3]);
-    let good = write(&records);
-    let at = good.len() - 6;
+}
+
+/// Another mark, count or place of the trailer, also before a title length over 40.
+fn add_changed_ends(file: &mut File, good: &[u8]) {
     let changes: [(usize, &[u8]); 12] = [
         (4, &[69]),
         (4, &[82]),
@@ -236,29 +267,20 @@ fn add_bad_ends(file: &mut File, random: &mut Random) {
         (0, &[255, 255, 255, 255]),
     ];
     for (offset, bytes) in changes {
-        let mut archive = good.clone();
-        archive[at + offset..at + offset + bytes.len()].copy_from_slice(bytes);
+        let at = good.len() - TRAILER_END + offset;
+        let mut archive = good.to_vec();
+        archive[at..at + bytes.len()].copy_from_slice(bytes);
         add_read(file, &archive);
         add_find(file, &archive, 2);
-        archive[68] = 41;
+        archive[RECORD_BYTES] = 41;
         add_read(file, &archive);
     }
-    for count in [COUNT_MOST, COUNT_MOST + 1] {
-        add_read(file, &end(Vec::new(), &vec![0; 2 * count], count));
-    }
-    add_read(file, &[&[0], &good[..]].concat());
-    add_read(file, &[&good[..], &[0]].concat());
-    add_read(file, &[&good[..], &MARK].concat());
-    add_read(file, &[&good[..], &good[..]].concat());
 }
 
 /// Refusals 3, 4 and 5, alone and two or three at once.
 fn add_bad_bodies(file: &mut File, random: &mut Random) {
-    let mut records = filed(random, &[10, 20, 30]);
-    records
-        .iter_mut()
-        .for_each(|(_, title)| *title = b"ab".to_vec());
-    type Change = fn(&mut Vec<Filed>);
+    let records = filed(random, &[10, 20, 30]).into_iter();
+    let records: Vec<Filed> = records.map(|(r, _)| (r, b"ab".to_vec())).collect();
     let threes: [Change; 3] = [|r| r[2].1 = vec![32; 41], |r| r[0].1 = vec![32; 41], |_| ()];
     let fours: [Change; 4] = [
         |r| r[0].1[1] = 31,
@@ -267,36 +289,40 @@ fn add_bad_bodies(file: &mut File, random: &mut Random) {
         |_| (),
     ];
     let fives: [Change; 5] = [
-        |r| put_u32(&mut r[0].0, 0, 0),
-        |r| put_u32(&mut r[1].0, 0, 10),
-        |r| put_u32(&mut r[2].0, 0, 19),
-        |r| put_u32(&mut r[2].0, 0, 0),
+        |r| put_u32(&mut r[0].0, NUMBER_AT, 0),
+        |r| put_u32(&mut r[1].0, NUMBER_AT, 10),
+        |r| put_u32(&mut r[2].0, NUMBER_AT, 19),
+        |r| put_u32(&mut r[2].0, NUMBER_AT, 0),
         |_| (),
     ];
-    for three in threes {
-        for four in fours {
-            for five in fives {
-                let mut changed = records.clone();
-                [five, four, three]
-                    .iter()
-                    .for_each(|change| change(&mut changed));
-                let archive = write(&changed);
-                add_read(file, &archive);
-                add_find(file, &archive, 20);
-            }
-        }
+    for ((three, four), five) in product(&product(&threes, &fours), &fives) {
+        let mut changed = records.clone();
+        five(&mut changed);
+        four(&mut changed);
+        three(&mut changed);
+        let archive = write(&changed);
+        add_read(file, &archive);
+        add_find(file, &archive, 20);
     }
-    add_misplaced(file, &write(&records));
+    add_misplaced(file, &write(&records)[..213]);
 }
 
-/// Records that do not run as placed; the trailer starts at 213.
-fn add_misplaced(file: &mut File, good: &[u8]) {
-    let body = |length: usize| {
-        let mut body = good[..213].to_vec();
-        body.resize(length, 0);
-        body
-    };
-    let places = |places: [u16; 3]| places.map(u16::to_le_bytes).concat();
+/// Records that do not run as placed; `body` holds three of 71 bytes each.
+fn add_misplaced(file: &mut File, body: &[u8]) {
+    add_other_places(file, body);
+    add_other_lengths(file, body);
+    add_read(file, &end(body.to_vec(), &places([0, 71, 142])[..4], 2));
+    add_read(file, &end(body.to_vec(), &[], 0));
+    add_read(file, &end(vec![0], &[], 0));
+    add_read(file, &end(body[..142].to_vec(), &places([0, 71, 142]), 3));
+    add_other_title_lengths(file, body);
+}
+
+fn places(places: [u16; 3]) -> Vec<u8> {
+    places.map(u16::to_le_bytes).concat()
+}
+
+fn add_other_places(file: &mut File, body: &[u8]) {
     for at in [
         [0, 71, 141],
         [0, 71, 143],
@@ -305,18 +331,23 @@ fn add_misplaced(file: &mut File, good: &[u8]) {
         [71, 142, 0],
         [0, 0, 0],
     ] {
-        add_read(file, &end(body(213), &places(at), 3));
+        add_read(file, &end(body.to_vec(), &places(at), 3));
     }
+}
+
+fn add_other_lengths(file: &mut File, body: &[u8]) {
     for length in [212, 214, 141, 142, 0] {
-        add_read(file, &end(body(length), &places([0, 71, 142]), 3));
+        let mut resized = body.to_vec();
+        resized.resize(length, 0);
+        add_read(file, &end(resized, &places([0, 71, 142]), 3));
     }
-    add_read(file, &end(body(213), &places([0, 71, 142])[..4], 2));
-    add_read(file, &end(body(213), &[], 0));
-    add_read(file, &end(vec![0], &[], 0));
-    add_read(file, &end(body(142), &places([0, 71, 142]), 3));
+}
+
+/// Lengths of the last title.
+fn add_other_title_lengths(file: &mut File, body: &[u8]) {
     for length in [1, 3, 40, 41, 255] {
-        let mut changed = body(213);
-        changed[68 + 142] = length;
+        let mut changed = body.to_vec();
+        changed[142 + RECORD_BYTES] = length;
         add_read(file, &end(changed, &places([0, 71, 142]), 3));
     }
 }
@@ -325,72 +356,102 @@ fn add_misplaced(file: &mut File, good: &[u8]) {
 fn add_damaged(file: &mut File, random: &mut Random) {
     let good = write(&filed(random, &[1, 2, 300]));
     for at in 0..good.len() {
-        for change in [1, 128, random.between(1, 255) as u8] {
-            let mut damaged = good.clone();
-            damaged[at] ^= change;
-            add_read(file, &damaged);
-            if change == 1 {
-                add_find(file, &damaged, 2);
-            }
-        }
+        let any = random.between(1, 255) as u8;
+        add_damaged_at(file, &good, at, [1, 128, any]);
         add_read(file, &good[..at]);
         add_read(file, &good[at..]);
     }
 }
 
-/// Random bytes, bare and before a right mark or a right trailer.
+fn add_damaged_at(file: &mut File, good: &[u8], at: usize, changes: [u8; 3]) {
+    for change in changes {
+        let mut damaged = good.to_vec();
+        damaged[at] ^= change;
+        add_read(file, &damaged);
+        if change == 1 {
+            add_find(file, &damaged, 2);
+        }
+    }
+}
+
 fn add_noise(file: &mut File, random: &mut Random) {
     for n in 0..120 {
-        let length = random.below(240) as usize;
-        let mut noise = random.bytes(length);
-        match n % 3 {
-            0 => (),
-            1 => noise.extend(MARK),
-            _ => {
-                let count = random.below(4) as usize;
-                let places = random.bytes(2 * count);
-                noise = end(noise, &places, count);
-            }
-        }
+        let noise = noise(random, n);
         add_read(file, &noise);
         let number = random.below(3);
         add_find(file, &noise, number);
     }
 }
 
-/// Adding one after another, with buffers short by one, exact and longer.
+/// Random bytes, bare, before a right mark and before a right trailer in turn.
+fn noise(random: &mut Random, n: u32) -> Vec<u8> {
+    let length = random.below(240) as usize;
+    let noise = random.bytes(length);
+    match n % 3 {
+        0 => noise,
+        1 => [&noise[..], &MARK].concat(),
+        _ => {
+            let count = random.below(4) as usize;
+            let places = random.bytes(2 * count);
+            end(noise, &places, count)
+        }
+    }
+}
+
+/// Adding one after another, then other numbers and titles.
 fn add_additions(file: &mut File, random: &mut Random) {
+    let records = add_growing(file, random);
+    add_new_numbers(file, random, &write(&records));
+    add_new_titles(file, random);
+    add_add(file, &EMPTY, &any_record(random, 0), b"", 77);
+    add_add(file, &EMPTY, &any_record(random, u32::MAX), b"", 77);
+    let last = write(&filed(random, &[u32::MAX]));
+    add_add(file, &last, &any_record(random, u32::MAX), b"", 300);
+}
+
+/// Eight records, each added to those before it.
+fn add_growing(file: &mut File, random: &mut Random) -> Vec<Filed> {
     let mut records = Vec::new();
     for n in 0..8 {
-        let old = write(&records);
-        let new = (card(random, 5 * n + 1), good_title(random, 5 * n as usize));
-        let length = old.len() + 71 + new.1.len();
-        for room in [length, length - 1, length + 1, length + 60, 0] {
-            add_add(file, &old, &new.0, &new.1, room);
-        }
-        records.push(new);
+        let record = any_record(random, 5 * n + 1);
+        let title = good_title(random, 5 * n as usize);
+        add_rooms(file, &write(&records), &record, &title);
+        records.push((record, title));
     }
-    let old = write(&records);
+    records
+}
+
+/// Buffers short by one, exact, longer and none.
+fn add_rooms(file: &mut File, old: &[u8], record: &RecordBytes, title: &[u8]) {
+    let length = old.len() + 71 + title.len();
+    for room in [length, length - 1, length + 1, length + 60, 0] {
+        add_add(file, old, record, title, room);
+    }
+}
+
+/// Numbers next to the last, which is 36, and far from it.
+fn add_new_numbers(file: &mut File, random: &mut Random, old: &[u8]) {
     for number in [0, 1, 35, 36, 37, 1 << 24, u32::MAX] {
-        add_add(file, &old, &card(random, number), b"number", old.len() + 77);
+        let record = any_record(random, number);
+        add_add(file, old, &record, b"number", old.len() + 77);
     }
+}
+
+/// New titles of every length.
+fn add_new_titles(file: &mut File, random: &mut Random) {
     for length in 0..=TITLE_MOST + 2 {
         let title = good_title(random, length);
-        add_add(file, &EMPTY, &card(random, 9), &title, 77 + length);
+        add_add(file, &EMPTY, &any_record(random, 9), &title, 77 + length);
     }
-    add_add(file, &EMPTY, &card(random, 0), b"", 77);
-    add_add(file, &EMPTY, &card(random, u32::MAX), b"", 77);
-    let last = write(&filed(random, &[u32::MAX]));
-    add_add(file, &last, &card(random, u32::MAX), b"", 300);
 }
 
 /// Refusals of adding alone and two at once, also after a refused archive.
 fn add_refused_additions(file: &mut File, random: &mut Random) {
     let good = write(&filed(random, &[5, 6]));
     let mut number = good.clone();
-    put_u32(&mut number, 0, 7);
+    put_u32(&mut number, NUMBER_AT, 7);
     let mut places = good.clone();
-    places[68] = 200;
+    places[RECORD_BYTES] = 200;
     let archives = [
         &good[..],
         &good[1..],
@@ -398,20 +459,19 @@ fn add_refused_additions(file: &mut File, random: &mut Random) {
         &number,
         &places,
     ];
-    let new = card(random, 7);
-    let low = card(random, 6);
+    let new = any_record(random, 7);
+    let low = any_record(random, 6);
     let long = [&new[..], &[0]].concat();
-    let titles = [good_title(random, 3), vec![b' '; 41], vec![31]];
-    for archive in archives {
-        for card in [&new[..], &new[..67], &long, &[], &low] {
-            for title in &titles {
-                for room in [
-                    archive.len() + 71 + title.len(),
-                    archive.len() + 70 + title.len(),
-                ] {
-                    add_add(file, archive, card, title, room);
-                }
-            }
-        }
+    let records = [&new[..], &new[..67], &long, &[], &low];
+    let titles = [&good_title(random, 3)[..], &[b' '; 41], &[31]];
+    let added = product(&product(&archives, &records), &titles);
+    for (((archive, record), title), more) in product(&added, &[71, 70]) {
+        add_add(
+            file,
+            archive,
+            record,
+            title,
+            archive.len() + more + title.len(),
+        );
     }
 }

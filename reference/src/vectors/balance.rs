@@ -2,16 +2,20 @@
 
 use super::balance_cases::{Inputs, BY_ROUNDS, BY_STOP};
 use super::orders::{flows, Order, OTHER_ORDERS};
-use super::{Body, File};
+use super::{product, Body, File};
 use crate::balance::{balance, check_volumes, pair_flows, Balance, Outcome, ROUND_LIMIT};
 use crate::random::Random;
 use crate::record::{Seeds, ACCESS, DEFAULT_SEEDS, THROUGH};
 use crate::refusal::{Refusal, UNSETTLED};
 use crate::samples::random_row;
+use std::iter::repeat_with;
 
 const SEED: u64 = 0x0101_ba1a;
 /// Cases kept for each other order of operations.
 const KEPT_OF_ORDER: usize = 12;
+
+/// Some volume everywhere.
+const VOLUMES: [u32; 4] = [10, 20, 30, 40];
 
 const SETTLED: u32 = 1;
 const UNSETTLED_OUTCOME: u32 = 0;
@@ -20,16 +24,9 @@ const NOT_RUN: u32 = 2;
 pub fn file() -> File {
     let mut file = File::default();
     add_figures(&mut file);
-    add_refused(&mut file);
-    BY_ROUNDS
-        .iter()
-        .for_each(|(_, inputs)| add(&mut file, inputs));
-    BY_STOP
-        .iter()
-        .for_each(|(_, _, inputs)| add(&mut file, inputs));
-    order_cases()
-        .iter()
-        .for_each(|(_, inputs)| add(&mut file, inputs));
+    add_no_volume(&mut file);
+    add_unserved(&mut file);
+    add_rare(&mut file);
     add_extremes(&mut file);
     add_random(&mut file);
     let wrong = ([200, 700, 150, 120], [150, 800, 200, 20], DEFAULT_SEEDS);
@@ -73,7 +70,9 @@ fn case(inputs: &Inputs, off: u32) -> (u32, Body) {
     body.word(outcome);
     body.word(balance.map_or(0, |balance| balance.rounds));
     body.bits(last_sum);
-    cells.concat().into_iter().for_each(|cell| body.bits(cell));
+    for cell in cells.concat() {
+        body.bits(cell);
+    }
     body.words(&flows.concat());
     (number, body)
 }
@@ -87,6 +86,16 @@ fn add(file: &mut File, inputs: &Inputs) {
     file.push(format!("{number}"), body);
 }
 
+/// Balances of rare rounds, of early stops, and that tell orders of operations apart.
+fn add_rare(file: &mut File) {
+    let by_rounds = BY_ROUNDS.iter().map(|(_, inputs)| *inputs);
+    let by_stop = BY_STOP.iter().map(|(_, _, inputs)| *inputs);
+    let by_order = order_cases().into_iter().map(|(_, inputs)| inputs);
+    for inputs in by_rounds.chain(by_stop).chain(by_order) {
+        add(file, &inputs);
+    }
+}
+
 /// The paper's figures.
 fn add_figures(file: &mut File) {
     add(file, &([0, 10, 0, 90], [0, 10, 0, 90], DEFAULT_SEEDS));
@@ -94,29 +103,33 @@ fn add_figures(file: &mut File) {
     add(file, &([0, 0, 0, 360], [0, 360, 0, 0], DEFAULT_SEEDS));
 }
 
-/// 13 by each side and by both, also where 14 applies; 14 by each entry and each exit,
-/// and the same seeds where the entry or the exit has no volume.
-fn add_refused(file: &mut File) {
+/// 13 by each side and by both, also where 14 applies.
+fn add_no_volume(file: &mut File) {
     let none = [0; 4];
-    let some = [10, 20, 30, 40];
-    for (discharge, exits) in [(none, some), (some, none), (none, none)] {
+    for (discharge, exits) in [(none, VOLUMES), (VOLUMES, none), (none, none)] {
         add(file, &(discharge, exits, DEFAULT_SEEDS));
         add(file, &(discharge, exits, [[0, 0, 0, 100]; 4]));
     }
+}
+
+/// 14 by each entry and each exit, and the same seeds where it has no volume.
+fn add_unserved(file: &mut File) {
     for n in 0..4 {
-        let without = |at: usize| {
-            let mut volumes = some;
-            volumes[at] = 0;
-            volumes
-        };
         let next = (n + 1) % 4;
-        add(file, &(some, without(next), only_to(n, next)));
+        add(file, &(VOLUMES, without(next), only_to(n, next)));
         add(file, &(without(n), without(next), only_to(n, next)));
-        add(file, &(some, some, unserved_exit(n)));
-        add(file, &(some, without(n), unserved_exit(n)));
-        add(file, &(without(n), some, only_from(n, next)));
-        add(file, &(some, some, only_from(n, next)));
+        add(file, &(VOLUMES, VOLUMES, unserved_exit(n)));
+        add(file, &(VOLUMES, without(n), unserved_exit(n)));
+        add(file, &(without(n), VOLUMES, only_from(n, next)));
+        add(file, &(VOLUMES, VOLUMES, only_from(n, next)));
     }
+}
+
+/// The volumes, but none at this entry or exit.
+fn without(at: usize) -> [u32; 4] {
+    let mut volumes = VOLUMES;
+    volumes[at] = 0;
+    volumes
 }
 
 /// The entry has seeds for one exit only.
@@ -160,21 +173,17 @@ fn add_extremes(file: &mut File) {
         [1, 12000, 12000, 0],
         [0, 12000, 0, 0],
     ];
-    let rows = [
-        [25; 4],
-        [100, 0, 0, 0],
-        [0, 100, 0, 0],
-        [1, 97, 1, 1],
-        [97, 1, 1, 1],
-        [0, 50, 50, 0],
+    let seeds = [
+        DEFAULT_SEEDS,
+        [[25; 4]; 4],
+        [[100, 0, 0, 0]; 4],
+        [[0, 100, 0, 0]; 4],
+        [[1, 97, 1, 1]; 4],
+        [[97, 1, 1, 1]; 4],
+        [[0, 50, 50, 0]; 4],
     ];
-    for discharge in volumes {
-        for exit in exits {
-            add(file, &(discharge, exit, DEFAULT_SEEDS));
-            for row in rows {
-                add(file, &(discharge, exit, [row; 4]));
-            }
-        }
+    for ((discharge, exits), seeds) in product(&product(&volumes, &exits), &seeds) {
+        add(file, &(discharge, exits, seeds));
     }
 }
 
@@ -183,14 +192,9 @@ pub fn order_cases() -> Vec<(Order, Inputs)> {
     let mut random = Random::new(SEED);
     let mut cases = Vec::new();
     for order in OTHER_ORDERS {
-        let mut kept = 0;
-        while kept < KEPT_OF_ORDER {
-            let inputs = exact_inputs(&mut random);
-            if run(&inputs).0 == 0 && tells_apart(order, &inputs) {
-                cases.push((order, inputs));
-                kept += 1;
-            }
-        }
+        let told_apart = repeat_with(|| exact_inputs(&mut random))
+            .filter(|inputs| run(inputs).0 == 0 && tells_apart(order, inputs));
+        cases.extend(told_apart.take(KEPT_OF_ORDER).map(|inputs| (order, inputs)));
     }
     cases
 }
@@ -215,11 +219,7 @@ fn exact_inputs(random: &mut Random) -> Inputs {
             random.between(1, size)
         }
     });
-    let exits = [0, 1, 2, 3].map(|j| {
-        (0..4)
-            .map(|i| parts[i] * u32::from(seeds[i][j]))
-            .sum::<u32>()
-    });
+    let exits = seeded(&parts, &seeds);
     let most = exits.into_iter().fold(1, u32::max);
     let entry_times = random.between(1, 60 / size);
     let exit_times = random.between(1, 12000 / most);
@@ -228,6 +228,11 @@ fn exact_inputs(random: &mut Random) -> Inputs {
         exits.map(|exit| exit * exit_times),
         seeds,
     )
+}
+
+/// What the seeds give each exit, a hundred for each vehicle.
+fn seeded(discharge: &[u32; 4], seeds: &Seeds) -> [u32; 4] {
+    [0, 1, 2, 3].map(|j| (0..4).map(|i| discharge[i] * u32::from(seeds[i][j])).sum())
 }
 
 fn random_volume(random: &mut Random, most: u32) -> u32 {
@@ -251,12 +256,8 @@ fn add_random(file: &mut File) {
         let discharge = [(); 4].map(|_| random_volume(&mut random, 6000));
         let mut exits = [(); 4].map(|_| random_volume(&mut random, 12000));
         if n % 2 == 0 {
-            let likely = |j: usize| {
-                (0..4)
-                    .map(|i| discharge[i] * u32::from(seeds[i][j]))
-                    .sum::<u32>()
-            };
-            exits = [0, 1, 2, 3].map(|j| likely(j) / 100 * random.between(60, 160) / 100);
+            let likely = seeded(&discharge, &seeds);
+            exits = likely.map(|exit| exit / 100 * random.between(60, 160) / 100);
             exits[THROUGH] += 1;
         }
         add(file, &(discharge, exits.map(|exit| exit.min(12000)), seeds));

@@ -1,12 +1,16 @@
 //! Vectors of the discharge call.
 
-use super::faults::{fault_pairs, faults, green_fields, volume_fields};
-use super::{profile_before, Body, File, OUTPUT_BEFORE};
+use super::faults::{fault_pairs, faults, Fault};
+use super::range_ends::{
+    green_ends, headway_ends, number_ends, running_time_ends, seed_ends, volume_ends,
+};
+use super::{product, profile_before, Body, File, OUTPUT_BEFORE};
 use crate::discharge::discharge;
 use crate::random::Random;
-use crate::record::{ACCESS_AT, CYCLE_LEAST, CYCLE_MOST, HEADWAY_AT, RUNNING_TIME_AT};
+use crate::record::{ACCESS_AT, CYCLE_LEAST, CYCLE_MOST};
+use crate::refusal::GREEN;
 use crate::samples::{
-    busy, put_entry, put_exits, put_green, put_seeds, put_u16, put_u32, quiet, random_card, Card,
+    busy, put_entry, put_exits, put_seeds, put_u16, quiet, random_record, RecordBytes,
 };
 
 const SEED: u64 = 0x0101_d15c;
@@ -15,26 +19,27 @@ pub fn file() -> File {
     let mut file = File::default();
     add_lengths(&mut file);
     add_range_ends(&mut file);
+    add_extremes(&mut file);
     add_greens(&mut file);
     add_refused_by_volume(&mut file);
     add_faults(&mut file);
     add_random(&mut file);
-    let card = busy(CYCLE_LEAST);
-    file.push("wrong".into(), case(&card, 90, 1).1);
+    let record = busy(CYCLE_LEAST);
+    file.push("wrong".into(), case(&record, 90, 1).1);
     file
 }
 
 /// A case; `off` is added to the last number of the profile.
-fn case(card: &[u8], length: usize, off: u32) -> (u32, Body) {
+fn case(record: &[u8], length: usize, off: u32) -> (u32, Body) {
     let mut profile = profile_before(OUTPUT_BEFORE, length);
-    let result = discharge(card, &mut profile);
+    let result = discharge(record, &mut profile);
     let number = result.err().unwrap_or(0);
     if let Some(last) = profile.last_mut() {
         *last += off;
     }
     let mut body = Body::default();
-    body.short(card.len());
-    body.bytes(card);
+    body.short(record.len());
+    body.bytes(record);
     body.short(length);
     body.word(number);
     body.words(&result.unwrap_or([0; 3]));
@@ -42,79 +47,67 @@ fn case(card: &[u8], length: usize, off: u32) -> (u32, Body) {
     (number, body)
 }
 
-fn add(file: &mut File, card: &[u8], length: usize) {
-    let (number, body) = case(card, length, 0);
+fn add(file: &mut File, record: &[u8], length: usize) {
+    let (number, body) = case(record, length, 0);
     file.push(format!("{number}"), body);
 }
 
-fn add_full(file: &mut File, cycle: u32, card: &Card) {
-    add(file, card, 3 * cycle as usize);
+fn add_full(file: &mut File, cycle: u32, record: &RecordBytes) {
+    add(file, record, 3 * cycle as usize);
 }
 
-/// Lengths of the record and of the profile.
+/// Lengths of the profile, then of the record.
 fn add_lengths(file: &mut File) {
     for cycle in [CYCLE_LEAST, 31, 60, CYCLE_MOST] {
-        let card = busy(cycle);
-        let exact = 3 * cycle as usize;
-        for length in [0, 1, exact - 1, exact, exact + 1, exact + 37] {
-            add(file, &card, length);
-        }
+        add_profile_lengths(file, cycle);
     }
+    add_record_lengths(file);
+}
+
+fn add_profile_lengths(file: &mut File, cycle: u32) {
+    let exact = 3 * cycle as usize;
+    for length in [0, 1, exact - 1, exact, exact + 1, exact + 37] {
+        add(file, &busy(cycle), length);
+    }
+}
+
+fn add_record_lengths(file: &mut File) {
     let long = [busy(30), busy(30)].concat();
-    for length in [0, 1, 4, 67, 68, 69, 136] {
-        add(file, &long[..length], 90);
-        add(file, &long[..length], 89);
-        add(file, &long[..length], 0);
+    for (length, profile) in product(&[0, 1, 4, 67, 68, 69, 136], &[90, 89, 0]) {
+        add(file, &long[..length], profile);
     }
 }
 
 /// Every field at both ends of its range.
 fn add_range_ends(file: &mut File) {
     for cycle in [CYCLE_LEAST, CYCLE_MOST] {
-        for (at, most) in volume_fields() {
-            for value in [0, u32::from(most)] {
-                add_changed(file, cycle, |card| put_u16(card, at, value));
-            }
-        }
-        for at in green_fields() {
-            for (start, length) in [(0, 0), (cycle - 1, 0), (0, cycle), (cycle - 1, cycle)] {
-                add_changed(file, cycle, |card| put_green(card, at, start, length));
-            }
-        }
+        add_all(file, cycle, &volume_ends(cycle));
+        add_all(file, cycle, &green_ends(cycle));
     }
-    for value in [1000, 300_000] {
-        add_changed(file, CYCLE_LEAST, |card| {
-            put_u32(card, RUNNING_TIME_AT, value)
-        });
-    }
-    for value in [1000, 10000] {
-        add_changed(file, CYCLE_LEAST, |card| put_u16(card, HEADWAY_AT, value));
-    }
-    for value in [0, u32::MAX] {
-        add_changed(file, CYCLE_LEAST, |card| put_u32(card, 0, value));
-    }
-    for seeds in [[[100, 0, 0, 0]; 4], [[0, 0, 0, 100]; 4], [[25; 4]; 4]] {
-        add_changed(file, CYCLE_LEAST, |card| put_seeds(card, &seeds));
-    }
-    add_extremes(file);
+    add_all(file, CYCLE_LEAST, &running_time_ends());
+    add_all(file, CYCLE_LEAST, &headway_ends());
+    add_all(file, CYCLE_LEAST, &number_ends());
+    add_all(file, CYCLE_LEAST, &seed_ends());
 }
 
-fn add_changed(file: &mut File, cycle: u32, change: impl Fn(&mut Card)) {
-    let mut card = busy(cycle);
-    change(&mut card);
-    add_full(file, cycle, &card);
+fn add_all(file: &mut File, cycle: u32, records: &[RecordBytes]) {
+    for record in records {
+        add_full(file, cycle, record);
+    }
 }
 
 /// All three entries with the most and the least at once.
 fn add_extremes(file: &mut File) {
-    for cycle in [CYCLE_LEAST, 59, CYCLE_MOST] {
-        for on_green in [0, 1, 999, 1000] {
-            let mut card = busy(cycle);
-            put_entry(&mut card, 0, [6000, 12000, cycle - 1, cycle, on_green]);
-            put_entry(&mut card, 1, [6000, 12000, cycle / 2, cycle / 2, on_green]);
-            put_entry(&mut card, 2, [6000, 1, cycle - 1, 2, on_green]);
-            add_full(file, cycle, &card);
-        }
+    for (cycle, on_green) in product(&[CYCLE_LEAST, 59, CYCLE_MOST], &[0, 1, 999, 1000]) {
+        let mut record = busy(cycle);
+        put_entry(&mut record, 0, [6000, 12000, cycle - 1, cycle, on_green]);
+        put_entry(
+            &mut record,
+            1,
+            [6000, 12000, cycle / 2, cycle / 2, on_green],
+        );
+        put_entry(&mut record, 2, [6000, 1, cycle - 1, 2, on_green]);
+        add_full(file, cycle, &record);
     }
 }
 
@@ -122,19 +115,19 @@ fn add_extremes(file: &mut File) {
 fn add_greens(file: &mut File) {
     let cycle = CYCLE_LEAST;
     for start in 0..cycle {
-        let mut card = quiet(cycle);
+        let mut record = quiet(cycle);
         put_entry(
-            &mut card,
+            &mut record,
             0,
             [900, 1900, start, start * 7 % 31, 40 * (start % 26)],
         );
-        put_entry(&mut card, 1, [400, 1800, start, cycle - start, 500]);
+        put_entry(&mut record, 1, [400, 1800, start, cycle - start, 500]);
         put_entry(
-            &mut card,
+            &mut record,
             2,
             [333, 1777, start, (cycle - start + 1).min(cycle), 1000],
         );
-        add_full(file, cycle, &card);
+        add_full(file, cycle, &record);
     }
     let mut example = quiet(60);
     put_entry(&mut example, 0, [600, 1800, 0, 30, 500]);
@@ -145,14 +138,14 @@ fn add_greens(file: &mut File) {
 
 /// Records that the working refuses with 13, 14 and 15, and this call does not.
 fn add_refused_by_volume(file: &mut File) {
-    for card in refused_by_volume() {
-        add_full(file, CYCLE_LEAST, &card);
-        add(file, &card, 89);
+    for record in refused_by_volume() {
+        add_full(file, CYCLE_LEAST, &record);
+        add(file, &record, 89);
     }
 }
 
 /// Two records for each of 13, 14 and 15.
-pub fn refused_by_volume() -> [Card; 6] {
+pub fn refused_by_volume() -> [RecordBytes; 6] {
     let mut no_exit = busy(CYCLE_LEAST);
     put_exits(&mut no_exit, [0; 4]);
     let mut exit_unserved = busy(CYCLE_LEAST);
@@ -177,27 +170,37 @@ pub fn refused_by_volume() -> [Card; 6] {
     ]
 }
 
-/// Refusals 7 to 12 alone and two at once, with the profile long enough and not.
+/// Refusals 7 to 12 alone, with the profile long enough and not, and two at once.
 fn add_faults(file: &mut File) {
     let faults = faults(CYCLE_LEAST);
+    add_single_faults(file, &faults);
+    add_green_faults(file, &faults);
+    add_fault_pairs(file);
+}
+
+/// Each fault; one in three also before 16 and after 6.
+fn add_single_faults(file: &mut File, faults: &[Fault]) {
     for (n, fault) in faults.iter().enumerate() {
-        let mut card = busy(CYCLE_LEAST);
-        fault.apply(&mut card);
-        add(file, &card, 90);
+        let record = fault.applied(busy(CYCLE_LEAST));
+        add(file, &record, 90);
         if n % 3 == 0 {
-            add(file, &card, 89);
-            add(file, &card[..67], 90);
+            add(file, &record, 89);
+            add(file, &record[..67], 90);
         }
     }
-    for fault in faults.iter().filter(|fault| fault.number == 11) {
-        let mut card = busy(CYCLE_LEAST);
-        fault.apply(&mut card);
-        add(file, &card, 5);
+}
+
+/// A fault of a green before 16.
+fn add_green_faults(file: &mut File, faults: &[Fault]) {
+    for fault in faults.iter().filter(|fault| fault.number == GREEN) {
+        add(file, &fault.applied(busy(CYCLE_LEAST)), 5);
     }
-    for pair in fault_pairs(CYCLE_LEAST) {
-        let mut card = busy(CYCLE_LEAST);
-        pair.iter().for_each(|fault| fault.apply(&mut card));
-        add(file, &card, 90);
+}
+
+fn add_fault_pairs(file: &mut File) {
+    for [low, high] in fault_pairs(CYCLE_LEAST) {
+        let record = high.applied(low.applied(busy(CYCLE_LEAST)));
+        add(file, &record, 90);
     }
 }
 
@@ -210,12 +213,12 @@ fn add_random(file: &mut File) {
             2 => CYCLE_LEAST,
             _ => random.between(30, 90),
         };
-        let card = random_card(&mut random, cycle);
+        let record = random_record(&mut random, cycle);
         let longer = if n % 5 == 0 {
             random.below(20) as usize
         } else {
             0
         };
-        add(file, &card, 3 * cycle as usize + longer);
+        add(file, &record, 3 * cycle as usize + longer);
     }
 }

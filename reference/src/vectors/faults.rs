@@ -1,11 +1,12 @@
 //! Faults of a record: one field out of its range.
 
+use super::product;
 use crate::record::{
     ACCESS_AT, CYCLE_AT, DOWNSTREAM_AT, ENTRIES_AT, ENTRY_BYTES, EXITS_AT, GREEN_IN, HEADWAY_AT,
     ON_GREEN_IN, RUNNING_TIME_AT, SATURATION_IN, SEEDS_AT, VOLUME_IN,
 };
 use crate::refusal::{self, Refusal};
-use crate::samples::Card;
+use crate::samples::RecordBytes;
 
 /// Bytes to write at a place, and the refusal they cause alone.
 #[derive(Clone, Debug)]
@@ -24,40 +25,58 @@ impl Fault {
         }
     }
 
-    pub fn apply(&self, card: &mut Card) {
-        card[self.at..self.at + self.bytes.len()].copy_from_slice(&self.bytes);
+    fn short(number: Refusal, at: usize, value: u16) -> Fault {
+        Fault::new(number, at, &value.to_le_bytes())
+    }
+
+    /// The record with this fault.
+    pub fn applied(&self, mut record: RecordBytes) -> RecordBytes {
+        record[self.at..self.at + self.bytes.len()].copy_from_slice(&self.bytes);
+        record
     }
 }
 
 /// Every field out of range at each end, for a record that is in range without seeds.
 pub fn faults(cycle: u32) -> Vec<Fault> {
-    let mut faults = Vec::new();
-    let short = |number, at, value: u16| Fault::new(number, at, &value.to_le_bytes());
-    for value in [0, 29, 241, 30 + 256, u16::MAX] {
-        faults.push(short(refusal::CYCLE, CYCLE_AT, value));
-    }
-    for value in [0u32, 999, 300_001, 40_000 + 5 * 65536, u32::MAX] {
-        faults.push(Fault::new(
-            refusal::RUNNING_TIME,
-            RUNNING_TIME_AT,
-            &value.to_le_bytes(),
-        ));
-    }
-    for value in [0, 999, 10001, u16::MAX] {
-        faults.push(short(refusal::HEADWAY, HEADWAY_AT, value));
-    }
-    for (at, most) in volume_fields() {
-        faults.push(short(refusal::VOLUME, at, most + 1));
-        faults.push(short(refusal::VOLUME, at, u16::MAX));
-    }
-    for at in green_fields() {
-        let over = cycle as u8;
-        for bytes in [[over, 1], [over, 0], [255, 1], [0, over + 1], [0, 255]] {
-            faults.push(Fault::new(refusal::GREEN, at, &bytes));
-        }
-    }
-    faults.extend(seed_faults());
-    faults
+    let cycles = [0, 29, 241, 30 + 256, u16::MAX];
+    let headways = [0, 999, 10001, u16::MAX];
+    [
+        cycles
+            .map(|value| Fault::short(refusal::CYCLE, CYCLE_AT, value))
+            .to_vec(),
+        running_time_faults(),
+        headways
+            .map(|value| Fault::short(refusal::HEADWAY, HEADWAY_AT, value))
+            .to_vec(),
+        volume_faults(),
+        green_faults(cycle as u8),
+        (0..4).flat_map(seed_faults).collect(),
+    ]
+    .concat()
+}
+
+fn running_time_faults() -> Vec<Fault> {
+    let values: [u32; 5] = [0, 999, 300_001, 40_000 + 5 * 65536, u32::MAX];
+    let fault = |value: u32| {
+        let bytes = value.to_le_bytes();
+        Fault::new(refusal::RUNNING_TIME, RUNNING_TIME_AT, &bytes)
+    };
+    values.map(fault).to_vec()
+}
+
+fn volume_faults() -> Vec<Fault> {
+    let over = |(at, most): (usize, u16)| {
+        [most + 1, u16::MAX].map(|value| Fault::short(refusal::VOLUME, at, value))
+    };
+    volume_fields().into_iter().flat_map(over).collect()
+}
+
+fn green_faults(cycle: u8) -> Vec<Fault> {
+    let greens = [[cycle, 1], [cycle, 0], [255, 1], [0, cycle + 1], [0, 255]];
+    product(&green_fields(), &greens)
+        .into_iter()
+        .map(|(at, green)| Fault::new(refusal::GREEN, at, &green))
+        .collect()
 }
 
 /// Offsets and most of every volume, saturation and share arriving on green.
@@ -81,9 +100,8 @@ pub fn green_fields() -> Vec<usize> {
         .collect()
 }
 
-/// One row of four that does not add to 100 beside three that do; too few seeds.
-fn seed_faults() -> Vec<Fault> {
-    let good = [25; 16];
+/// Row `i` that does not add to 100 beside three that do; too few seeds.
+fn seed_faults(i: usize) -> Vec<Fault> {
     let rows = [
         [25, 25, 25, 24],
         [25, 26, 25, 25],
@@ -93,32 +111,37 @@ fn seed_faults() -> Vec<Fault> {
         [100, 0, 0, 255],
     ];
     let mut faults = Vec::new();
-    for i in 0..4 {
-        for row in rows {
-            let mut seeds = good;
-            seeds[4 * i..4 * i + 4].copy_from_slice(&row);
-            faults.push(Fault::new(refusal::SEEDS, SEEDS_AT, &seeds));
-        }
-        let mut seeds = [0; 16];
-        seeds[4 * i + 1] = 100;
-        faults.push(Fault::new(refusal::SEEDS, SEEDS_AT, &seeds));
-        faults.push(Fault::new(refusal::SEEDS, SEEDS_AT + 5 * i, &[1]));
+    for row in rows {
+        let mut seeds = [[25; 4]; 4];
+        seeds[i] = row;
+        faults.push(Fault::new(refusal::SEEDS, SEEDS_AT, &seeds.concat()));
     }
+    let mut seeds = [[0; 4]; 4];
+    seeds[i][1] = 100;
+    faults.push(Fault::new(refusal::SEEDS, SEEDS_AT, &seeds.concat()));
+    faults.push(Fault::new(refusal::SEEDS, SEEDS_AT + 5 * i, &[1]));
     faults
 }
 
-/// Two faults at once, for each two numbers, some of each.
+/// Two faults at once, the lower number first, some for each two numbers.
 pub fn fault_pairs(cycle: u32) -> Vec<[Fault; 2]> {
     let all = faults(cycle);
-    let with = |number: Refusal| all.iter().filter(move |f| f.number == number).cloned();
-    let mut pairs = Vec::new();
-    for low in refusal::CYCLE..refusal::SEEDS {
-        for high in low + 1..=refusal::SEEDS {
-            let lows: Vec<Fault> = with(low).collect();
-            for (n, second) in with(high).step_by(7).enumerate() {
-                pairs.push([lows[n * 5 % lows.len()].clone(), second]);
-            }
-        }
-    }
-    pairs
+    let with = |number: Refusal| -> Vec<Fault> {
+        let faults = all.iter().filter(|fault| fault.number == number);
+        faults.cloned().collect()
+    };
+    let numbers: Vec<Refusal> = (refusal::CYCLE..=refusal::SEEDS).collect();
+    let rising = product(&numbers, &numbers)
+        .into_iter()
+        .filter(|(low, high)| low < high);
+    rising
+        .flat_map(|(low, high)| some_pairs(&with(low), &with(high)))
+        .collect()
+}
+
+/// Each seventh of the high faults with one of the low.
+fn some_pairs(low: &[Fault], high: &[Fault]) -> Vec<[Fault; 2]> {
+    let high = high.iter().step_by(7).enumerate();
+    high.map(|(n, fault)| [low[n * 5 % low.len()].clone(), fault.clone()])
+        .collect()
 }

@@ -6,6 +6,7 @@ pub mod balance_cases;
 pub mod discharge;
 pub mod faults;
 pub mod orders;
+pub mod range_ends;
 pub mod working;
 
 use std::collections::BTreeMap;
@@ -21,6 +22,12 @@ pub fn profile_before(start: u32, length: usize) -> Vec<u32> {
 
 pub fn buffer_before(length: usize) -> Vec<u8> {
     (0..length).map(|i| (i % 251) as u8).collect()
+}
+
+/// Every pair of one from each list, the second changing faster.
+pub fn product<A: Copy, B: Copy>(first: &[A], second: &[B]) -> Vec<(A, B)> {
+    let with = |&a| second.iter().map(move |&b| (a, b));
+    first.iter().flat_map(with).collect()
 }
 
 /// The body of a case under construction, lowest byte first.
@@ -43,6 +50,10 @@ impl Body {
 
     pub fn count(&mut self, number: usize) {
         self.word(u32::try_from(number).expect("32 bits"));
+    }
+
+    pub fn counts(&mut self, numbers: &[usize]) {
+        numbers.iter().for_each(|&number| self.count(number));
     }
 
     pub fn long(&mut self, number: u64) {

@@ -1,6 +1,6 @@
 //! Balancing with one operation order changed, to find cases that tell them apart.
 
-use crate::balance::{pair_flows, PairFlows, ROUND_LIMIT, SETTLED_BELOW};
+use crate::balance::{pair_flows, Four, PairFlows, ROUND_LIMIT, SETTLED_BELOW};
 use crate::record::Seeds;
 
 /// Where the order differs from the paper's.
@@ -26,8 +26,6 @@ pub const OTHER_ORDERS: [Order; 5] = [
     Order::SeedTimes,
     Order::Fused,
 ];
-
-type Four = [f64; 4];
 
 impl Order {
     fn sum(self, [a, b, c, d]: Four) -> f64 {

@@ -2,16 +2,18 @@
 
 use super::balance_cases::{Inputs, BY_ROUNDS, BY_STOP};
 use super::discharge::refused_by_volume;
-use super::faults::{fault_pairs, faults, green_fields, volume_fields};
-use super::{profile_before, Body, File, FIRST_BEFORE, OUTPUT_BEFORE, SECOND_BEFORE};
+use super::faults::{fault_pairs, faults, Fault};
+use super::range_ends::{green_ends, headway_ends, number_ends, volume_ends};
+use super::{product, profile_before, Body, File, FIRST_BEFORE, OUTPUT_BEFORE, SECOND_BEFORE};
 use crate::arrivals::ExitFigures;
 use crate::random::Random;
-use crate::record::{ACCESS_AT, CYCLE_LEAST, CYCLE_MOST, HEADWAY_AT, RUNNING_TIME_AT};
+use crate::record::{ACCESS, ACCESS_AT, CYCLE_LEAST, CYCLE_MOST, HEADWAY_AT, RUNNING_TIME_AT};
 use crate::samples::{
-    busy, put_downstream, put_entry, put_exits, put_green, put_seeds, put_u16, put_u32, quiet,
-    random_card, Card,
+    busy, put_downstream, put_entry, put_exits, put_seeds, put_u16, put_u32, quiet, random_record,
+    RecordBytes,
 };
 use crate::working::{work, Working};
+use std::iter::repeat_with;
 
 const SEED: u64 = 0x0101_307c;
 
@@ -31,12 +33,17 @@ const REFUSED: Working = Working {
 
 pub fn file() -> File {
     let mut file = File::default();
-    add_lengths(&mut file);
+    add_profile_lengths(&mut file, CYCLE_LEAST);
+    add_profile_lengths(&mut file, 61);
+    add_record_lengths(&mut file);
     add_refused_by_volume(&mut file);
     add_faults(&mut file);
-    add_figures(&mut file);
+    add_example(&mut file);
+    add_running_times(&mut file);
+    add_near_blocking(&mut file);
     add_range_ends(&mut file);
     add_extremes(&mut file);
+    add_idle_entries(&mut file);
     add_balances(&mut file);
     add_random(&mut file);
     add_short_cycles(&mut file);
@@ -52,25 +59,23 @@ fn exact(cycle: u32) -> [usize; 3] {
 }
 
 /// A case; `off` is added to the last number of the output.
-fn case(card: &[u8], lengths: [usize; 3], off: u32) -> (u32, Body) {
+fn case(record: &[u8], lengths: [usize; 3], off: u32) -> (u32, Body) {
     let mut output = profile_before(OUTPUT_BEFORE, lengths[0]);
     let mut first = profile_before(FIRST_BEFORE, lengths[1]);
     let mut second = profile_before(SECOND_BEFORE, lengths[2]);
-    let result = work(card, &mut output, &mut first, &mut second);
+    let result = work(record, &mut output, &mut first, &mut second);
     let number = result.err().map_or(0, |refused| refused.number);
     if let Some(last) = output.last_mut() {
         *last += off;
     }
     let mut body = Body::default();
-    body.short(card.len());
-    body.bytes(card);
-    lengths.iter().for_each(|&length| body.count(length));
+    body.short(record.len());
+    body.bytes(record);
+    body.counts(&lengths);
     body.word(number);
     body.bits(result.map_or_else(|refused| refused.last_sum, |working| working.last_sum));
     put_working(&mut body, &result.unwrap_or(REFUSED));
-    [output, first, second]
-        .iter()
-        .for_each(|profile| body.words(profile));
+    body.words(&[output, first, second].concat());
     (number, body)
 }
 
@@ -87,33 +92,39 @@ fn put_working(body: &mut Body, working: &Working) {
     body.word(working.blocked);
 }
 
-fn add(file: &mut File, card: &[u8], lengths: [usize; 3]) {
-    let (number, body) = case(card, lengths, 0);
+fn add(file: &mut File, record: &[u8], lengths: [usize; 3]) {
+    let (number, body) = case(record, lengths, 0);
     file.push(format!("{number}"), body);
 }
 
-/// Profiles of awkward lengths, records of other lengths.
-fn add_lengths(file: &mut File) {
-    for cycle in [CYCLE_LEAST, 61] {
-        let [output, first, second] = exact(cycle);
-        let lengths = [
-            [output, first, second],
-            [output - 1, first, second],
-            [output, first - 1, second],
-            [output, first, second - 1],
-            [0, first, second],
-            [output, 0, second],
-            [output, first, 1],
-            [1, 1, 1],
-            [0, 0, 0],
-            [output + 1, first + 2, second + 3],
-            [output + 50, first, second + 11],
-            [output, first + output, second],
-        ];
-        lengths
-            .into_iter()
-            .for_each(|lengths| add(file, &busy(cycle), lengths));
+/// A case with profiles that are just long enough.
+fn add_exact(file: &mut File, cycle: u32, record: &RecordBytes) {
+    add(file, record, exact(cycle));
+}
+
+/// Profiles of awkward lengths.
+fn add_profile_lengths(file: &mut File, cycle: u32) {
+    let [output, first, second] = exact(cycle);
+    for lengths in [
+        [output, first, second],
+        [output - 1, first, second],
+        [output, first - 1, second],
+        [output, first, second - 1],
+        [0, first, second],
+        [output, 0, second],
+        [output, first, 1],
+        [1, 1, 1],
+        [0, 0, 0],
+        [output + 1, first + 2, second + 3],
+        [output + 50, first, second + 11],
+        [output, first + output, second],
+    ] {
+        add(file, &busy(cycle), lengths);
     }
+}
+
+/// Records of other lengths.
+fn add_record_lengths(file: &mut File) {
     let long = [busy(30), busy(30)].concat();
     for length in [0, 1, 67, 69, 136] {
         add(file, &long[..length], exact(30));
@@ -124,16 +135,16 @@ fn add_lengths(file: &mut File) {
 /// 13, 14 and 15, and 16 before each.
 fn add_refused_by_volume(file: &mut File) {
     let [output, first, second] = exact(CYCLE_LEAST);
-    for card in refused_by_volume().iter().chain(&more_without_volume()) {
-        add(file, card, [output, first, second]);
-        add(file, card, [output - 1, first, second]);
-        add(file, card, [output, first - 1, second]);
-        add(file, card, [output, first, second - 1]);
+    for record in refused_by_volume().iter().chain(&more_without_volume()) {
+        add(file, record, [output, first, second]);
+        add(file, record, [output - 1, first, second]);
+        add(file, record, [output, first - 1, second]);
+        add(file, record, [output, first, second - 1]);
     }
 }
 
 /// No discharge by no saturation and by no green, though volumes are given.
-fn more_without_volume() -> [Card; 3] {
+fn more_without_volume() -> [RecordBytes; 3] {
     let mut no_saturation = busy(CYCLE_LEAST);
     let mut no_green = busy(CYCLE_LEAST);
     let mut too_little = busy(CYCLE_LEAST);
@@ -142,44 +153,59 @@ fn more_without_volume() -> [Card; 3] {
         put_entry(&mut no_green, i, [500, 1800, 3, 0, 500]);
         put_entry(&mut too_little, i, [500, 29, 3, 1, 500]);
     }
-    [no_saturation, no_green, too_little].map(|mut card| {
-        put_u16(&mut card, ACCESS_AT, 0);
-        card
+    [no_saturation, no_green, too_little].map(|mut record| {
+        put_u16(&mut record, ACCESS_AT, 0);
+        record
     })
 }
 
 /// Some faults of each number 7 to 12 alone, before 13 and 16, and two at once.
 fn add_faults(file: &mut File) {
     let faults = faults(CYCLE_LEAST);
+    add_single_faults(file, &faults);
+    add_faults_before_others(file, &faults);
+    add_fault_pairs(file);
+}
+
+fn add_single_faults(file: &mut File, faults: &[Fault]) {
     for fault in faults.iter().step_by(3) {
-        let mut card = busy(CYCLE_LEAST);
-        fault.apply(&mut card);
-        add(file, &card, exact(CYCLE_LEAST));
-    }
-    for fault in faults.iter().step_by(7) {
-        let mut card = quiet(CYCLE_LEAST);
-        fault.apply(&mut card);
-        add(file, &card, [120, 29, 30]);
-    }
-    for pair in fault_pairs(CYCLE_LEAST).iter().step_by(3) {
-        let mut card = busy(CYCLE_LEAST);
-        pair.iter().for_each(|fault| fault.apply(&mut card));
-        add(file, &card, [119, 30, 31]);
+        add_exact(file, CYCLE_LEAST, &fault.applied(busy(CYCLE_LEAST)));
     }
 }
 
-/// The printed example, the turns of t', and flows at the edge of blocking.
-fn add_figures(file: &mut File) {
+fn add_faults_before_others(file: &mut File, faults: &[Fault]) {
+    for fault in faults.iter().step_by(7) {
+        add(file, &fault.applied(quiet(CYCLE_LEAST)), [120, 29, 30]);
+    }
+}
+
+fn add_fault_pairs(file: &mut File) {
+    for [low, high] in fault_pairs(CYCLE_LEAST).iter().step_by(3) {
+        let record = high.applied(low.applied(busy(CYCLE_LEAST)));
+        add(file, &record, [119, 30, 31]);
+    }
+}
+
+/// The printed example.
+fn add_example(file: &mut File) {
     let mut example = quiet(60);
     put_u16(&mut example, ACCESS_AT, 360);
     put_exits(&mut example, [0, 360, 0, 0]);
     put_downstream(&mut example, [(0, 0), (0, 30), (0, 0)]);
-    add(file, &example, exact(60));
+    add_exact(file, 60, &example);
+}
+
+/// The turns of t'.
+fn add_running_times(file: &mut File) {
     for running_time in [1000, 40098, 40099, 57499, 57500, 57501, 299_999, 300_000] {
-        let mut card = busy(CYCLE_LEAST);
-        put_u32(&mut card, RUNNING_TIME_AT, running_time);
-        add(file, &card, exact(CYCLE_LEAST));
+        let mut record = busy(CYCLE_LEAST);
+        put_u32(&mut record, RUNNING_TIME_AT, running_time);
+        add_exact(file, CYCLE_LEAST, &record);
     }
+}
+
+/// Flows at the edge of blocking.
+fn add_near_blocking(file: &mut File) {
     for (volume, headway) in [
         (360, 10000),
         (361, 10000),
@@ -188,98 +214,90 @@ fn add_figures(file: &mut File) {
         (878, 4100),
         (879, 4100),
     ] {
-        let mut card = quiet(CYCLE_LEAST);
-        put_u16(&mut card, HEADWAY_AT, headway);
-        put_u16(&mut card, ACCESS_AT, volume);
-        put_exits(&mut card, [0, 1, 0, 0]);
-        add(file, &card, exact(CYCLE_LEAST));
+        let mut record = quiet(CYCLE_LEAST);
+        put_u16(&mut record, HEADWAY_AT, headway);
+        put_u16(&mut record, ACCESS_AT, volume);
+        put_exits(&mut record, [0, 1, 0, 0]);
+        add_exact(file, CYCLE_LEAST, &record);
     }
 }
 
-/// Every field at both ends of its range.
+/// Every field at both ends of its range; the running times are with the turns of t'.
 fn add_range_ends(file: &mut File) {
-    let cycle = CYCLE_LEAST;
-    let mut change = |at: usize, value: u32, wide: bool| {
-        let mut card = busy(cycle);
-        let put = if wide { put_u32 } else { put_u16 };
-        put(&mut card, at, value);
-        add(file, &card, exact(cycle));
-    };
-    for (at, most) in volume_fields() {
-        change(at, 0, false);
-        change(at, u32::from(most), false);
+    let volumes_and_greens = [volume_ends(CYCLE_LEAST), green_ends(CYCLE_LEAST)].concat();
+    let headways_and_numbers = [headway_ends(), number_ends()].concat();
+    for record in volumes_and_greens.iter().chain(&headways_and_numbers) {
+        add_exact(file, CYCLE_LEAST, record);
     }
-    for at in green_fields() {
-        for (start, length) in [(0, 0), (cycle - 1, 0), (0, cycle), (cycle - 1, cycle)] {
-            let mut green = [0; 2];
-            put_green(&mut green, 0, start, length);
-            change(at, u32::from(green[0]) | u32::from(green[1]) << 8, false);
-        }
-    }
-    change(HEADWAY_AT, 1000, false);
-    change(HEADWAY_AT, 10000, false);
-    change(0, 0, true);
-    change(0, u32::MAX, true);
 }
 
-/// The most of everything, and entries with no discharge beside busy ones.
+/// The most of everything.
 fn add_extremes(file: &mut File) {
-    for cycle in [CYCLE_LEAST, 97, CYCLE_MOST] {
-        for running_time in [1000, 300_000] {
-            let mut card = quiet(cycle);
-            put_u32(&mut card, RUNNING_TIME_AT, running_time);
-            put_u16(&mut card, HEADWAY_AT, 10000);
-            for i in 0..3 {
-                put_entry(
-                    &mut card,
-                    i,
-                    [6000, 12000, cycle - 1, cycle, 500 * i as u32],
-                );
-            }
-            put_u16(&mut card, ACCESS_AT, 6000);
-            put_exits(&mut card, [12000; 4]);
-            put_downstream(
-                &mut card,
-                [(cycle - 1, cycle), (cycle - 1, 1), (cycle / 2, cycle)],
-            );
-            put_seeds(&mut card, &[[25; 4]; 4]);
-            add(file, &card, exact(cycle));
-            put_exits(&mut card, [0, 12000, 0, 0]);
-            add(file, &card, exact(cycle));
-            put_entry(&mut card, 2, [6000, 12000, cycle / 2, cycle / 2, 0]);
-            add(file, &card, exact(cycle));
-        }
+    for (cycle, running_time) in product(&[CYCLE_LEAST, 97, CYCLE_MOST], &[1000, 300_000]) {
+        let mut record = fullest(cycle, running_time);
+        add_exact(file, cycle, &record);
+        put_exits(&mut record, [0, 12000, 0, 0]);
+        add_exact(file, cycle, &record);
+        put_entry(&mut record, 2, [6000, 12000, cycle / 2, cycle / 2, 0]);
+        add_exact(file, cycle, &record);
     }
+}
+
+/// A record with the most volume and green, and the same seeds for all pairs.
+fn fullest(cycle: u32, running_time: u32) -> RecordBytes {
+    let mut record = quiet(cycle);
+    put_u32(&mut record, RUNNING_TIME_AT, running_time);
+    put_u16(&mut record, HEADWAY_AT, 10000);
+    for (i, on_green) in [0, 500, 1000].into_iter().enumerate() {
+        put_entry(&mut record, i, [6000, 12000, cycle - 1, cycle, on_green]);
+    }
+    put_u16(&mut record, ACCESS_AT, 6000);
+    put_exits(&mut record, [12000; 4]);
+    put_downstream(
+        &mut record,
+        [(cycle - 1, cycle), (cycle - 1, 1), (cycle / 2, cycle)],
+    );
+    put_seeds(&mut record, &[[25; 4]; 4]);
+    record
+}
+
+/// Entries with no discharge beside busy ones.
+fn add_idle_entries(file: &mut File) {
     for idle in 0..7 {
-        let mut card = busy(47);
-        for i in (0..3).filter(|i| idle >> i & 1 == 1) {
-            put_entry(&mut card, i, [0, 1800, 40, 20, 700]);
-        }
-        add(file, &card, exact(47));
+        add_exact(file, 47, &with_idle_entries(idle));
     }
+}
+
+/// A busy record where entry `i` is idle if bit `i` of `idle` is set.
+fn with_idle_entries(idle: u32) -> RecordBytes {
+    let mut record = busy(47);
+    for i in (0..3).filter(|i| idle >> i & 1 == 1) {
+        put_entry(&mut record, i, [0, 1800, 40, 20, 700]);
+    }
+    record
 }
 
 /// The rare balances, as the discharge volumes of records.
 fn add_balances(file: &mut File) {
     let by_rounds = BY_ROUNDS.iter().map(|(_, inputs)| inputs);
     for inputs in by_rounds.chain(BY_STOP.iter().step_by(3).map(|(_, _, inputs)| inputs)) {
-        add(file, &balance_card(inputs), exact(CYCLE_LEAST));
+        add_exact(file, CYCLE_LEAST, &balance_record(inputs));
     }
 }
 
-fn balance_card((discharge, exits, seeds): &Inputs) -> Card {
-    let mut card = quiet(CYCLE_LEAST);
+fn balance_record((discharge, exits, seeds): &Inputs) -> RecordBytes {
+    let mut record = quiet(CYCLE_LEAST);
     for i in 0..3u32 {
         put_entry(
-            &mut card,
+            &mut record,
             i as usize,
             [discharge[i as usize], 12000, 7 * i, 15 + i, 300 * i],
         );
     }
-    put_u16(&mut card, ACCESS_AT, discharge[3]);
-    put_exits(&mut card, *exits);
-    put_seeds(&mut card, seeds);
-    card
+    put_u16(&mut record, ACCESS_AT, discharge[ACCESS]);
+    put_exits(&mut record, *exits);
+    put_seeds(&mut record, seeds);
+    record
 }
 
 /// Random records, one in four at 240 steps and 300 s, some with longer profiles.
@@ -292,15 +310,15 @@ fn add_random(file: &mut File) {
             2 => random.between(91, 239),
             _ => random.between(30, 90),
         };
-        let mut card = random_card(&mut random, cycle);
+        let mut record = random_record(&mut random, cycle);
         if n % 4 == 0 {
-            put_u32(&mut card, RUNNING_TIME_AT, 300_000);
+            put_u32(&mut record, RUNNING_TIME_AT, 300_000);
         }
         let mut lengths = exact(cycle);
         if n % 5 == 0 {
             lengths = lengths.map(|length| length + random.below(9) as usize);
         }
-        add(file, &card, lengths);
+        add(file, &record, lengths);
     }
 }
 
@@ -309,35 +327,33 @@ fn add_short_cycles(file: &mut File) {
     let mut random = Random::new(SEED + 2);
     for _ in 0..1460 {
         let cycle = random.between(CYCLE_LEAST, 44);
-        let card = random_card(&mut random, cycle);
-        add(file, &card, exact(cycle));
+        add_exact(file, cycle, &random_record(&mut random, cycle));
     }
 }
 
 /// Accepted records of 240 steps and 300 s, three busy entries, greens past the end.
 fn add_long(file: &mut File) {
     let mut random = Random::new(SEED + 1);
-    let mut kept = 0;
-    while kept < 30 {
-        let mut card = random_card(&mut random, CYCLE_MOST);
-        put_u32(&mut card, RUNNING_TIME_AT, 300_000);
-        for i in 0..3 {
-            let start = random.between(120, 239);
-            let length = random.between(CYCLE_MOST - start + 1, CYCLE_MOST);
-            let volume = random.between(50, 1500);
-            let entry = [
-                volume,
-                random.between(1200, 5000),
-                start,
-                length,
-                random.below(1001),
-            ];
-            put_entry(&mut card, i, entry);
-        }
-        let (number, body) = case(&card, exact(CYCLE_MOST), 0);
-        if number == 0 {
-            file.push("0".into(), body);
-            kept += 1;
-        }
+    let cases = repeat_with(|| case(&long_record(&mut random), exact(CYCLE_MOST), 0));
+    for (_, body) in cases.filter(|(number, _)| *number == 0).take(30) {
+        file.push("0".into(), body);
     }
+}
+
+fn long_record(random: &mut Random) -> RecordBytes {
+    let mut record = random_record(random, CYCLE_MOST);
+    put_u32(&mut record, RUNNING_TIME_AT, 300_000);
+    for i in 0..3 {
+        let start = random.between(120, 239);
+        let length = random.between(CYCLE_MOST - start + 1, CYCLE_MOST);
+        let volume = random.between(50, 1500);
+        let saturation = random.between(1200, 5000);
+        let on_green = random.below(1001);
+        put_entry(
+            &mut record,
+            i,
+            [volume, saturation, start, length, on_green],
+        );
+    }
+    record
 }
