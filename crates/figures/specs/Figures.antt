@@ -24,7 +24,7 @@ use Rattle.pair_parts.specs.PairParts.{parts, pairArrivals}
 use Rattle.exit_figures.specs.ExitFigures.{blocked, blockedSteps}
 use Rattle.archive_format.specs.Archive.{body, places, encode, printables, titled, rising, lastNumber, filedFrom, runs, decodeBody, decode, addTo, addOf}
 use Rattle.archive_format.specs.Figures.{emptyArchive, oneRecord, oneLength, oneTrailer}
-use Rattle.figures.specs.Cards.{throughEntry}
+use Rattle.figures.specs.Records.{throughEntry}
 
 abbrev pub green : ℕ → ℕ → Green
 green post steps = record { start = record { 0 = post }; steps = steps }
