@@ -2,15 +2,15 @@
 use Prim.Native.Nat.{ℕ, zero, suc, _+_, _-_, _%_, _≤_, _<_}
 use native.Mathlib.Omega.{arith}
 use native.Mathlib.Nat.{mod-eq-of-lt}
-use mathlib.Core.Bool.{Bool, true, false, _||_, or-true}
+use mathlib.Core.Bool.{Bool, true, false, cond, _||_, or-true}
 use mathlib.Core.Path.{_≡_, refl, ap, sym, _∙_}
 use mathlib.Core.List.{List, [], _∷_}
 use lib.Dec.{eqb, ltb}
 use lib.ListN.{length}
 use borrow.Author.Tests.{eq-eqb, ne-eqb, eqb-true, eqb-false, ltb-true, ltb-false}
-use Rattle.lists.specs.Lists.{tab, tab-length}
+use Rattle.lists.specs.Lists.{sum, tab, tab-length, tab-same, tab-sum, tab-one, tab-zero}
 use Rattle.signal.specs.declared.Green.{Green}
-use Rattle.signal.specs.Turn.{turn, turn-pos, turn-le, turn-apart, earlier, earlier-pos, earlier-le, earlier-lands}
+use Rattle.signal.specs.Turn.{turn, turn-pos, turn-le, lands-apart, earlier, earlier-pos, earlier-le, earlier-lands}
 
 -- a green of a cycle of c: post to c - 1, length to c
 pub record Within (c : ℕ) (green : Green) : Type 0 where
@@ -51,12 +51,9 @@ pub green-apart : (c : ℕ) (green : Green) (j k : ℕ) → 0 < j → j ≤ c �
 unfolding greenStep
 green-apart c green j k hj lj hk lk e =
     let b = green .start .0 in
-    let ej : b + 1 + (j - 1) ≡ b + j = omega arith in
-    let ek : b + 1 + (k - 1) ≡ b + k = omega arith in
-    let q : j - 1 ≡ k - 1 =
-    turn-apart c (b + 1) (j - 1) (k - 1) (omega arith) (omega arith) (omega arith)
-    (ap (turn c) ej ∙ e ∙ sym (ap (turn c) ek)) in
-    omega arith
+    let ej : j + b ≡ b + j = omega arith in
+    let ek : k + b ≡ b + k = omega arith in
+    lands-apart c b j k hj lj hk lk (rw (ej, ek) e)
 
 -- a table holds its numbers, and no other
 pub has-in : (f : ℕ → ℕ) (s i n k : ℕ) → i ≤ k → k < i + n → f k ≡ s → has s (tab f i n) ≡ true
@@ -110,6 +107,39 @@ module _ (c : ℕ) (green : Green) (w : Within c green) (s : ℕ) (pos : 0 < s) 
           let z = only j h r e in
           let g = ltb-false ((s - 1 + (c - green .start .0)) % c) (green .steps) q in
           omega (arith, order))
+
+-- what its steps bring is what the cycle's steps bring, each where it is green
+module _ (c : ℕ) (green : Green) (f : ℕ → ℕ) (pos : 0 < c) where
+  steps-over : (n i : ℕ) → 0 < i → i + n ≤ c + 1 →
+      sum (tab (λ k. f (greenStep c green k)) i n) ≡ sum (tab (λ s. cond (has s (tab (greenStep c green) i n)) (f s) 0) 1 c)
+  unfolding sum tab has
+  steps-over zero i first fits = sym (tab-zero 1 c)
+  steps-over (suc n) i first fits =
+      let x = greenStep c green i in
+      let later = tab (greenStep c green) (suc i) n in
+      ap (λ (m : ℕ). f x + m) (steps-over n (suc i) (omega arith) (omega arith))
+      ∙ ap (λ (m : ℕ). m + sum (tab (λ s. cond (has s later) (f s) 0) 1 c)) (sym (tab-one c x (f x) 1 (omega (arith, green-le c green i pos)) (green-pos c green i)))
+      ∙ sym (tab-sum (λ s. cond (eqb x s) (f x) 0) (λ s. cond (has s later) (f s) 0) 1 c)
+      ∙ ap sum (tab-same (λ s. cond (eqb x s) (f x) 0 + cond (has s later) (f s) 0) (λ s. cond (eqb x s || has s later) (f s) 0) 1 c
+      (λ k h. one (1 + k) (eqb x (1 + k)) refl))
+    where
+      new : (s : ℕ) → greenStep c green i ≡ s → has s (tab (greenStep c green) (suc i) n) ≡ false
+      new s e =
+          has-out (greenStep c green) s (suc i) n
+          (λ k h r q. let z = green-apart c green i k first (omega arith) (omega arith) (omega arith) (e ∙ sym q) in omega arith)
+
+      one : (s : ℕ) (b : Bool) → eqb (greenStep c green i) s ≡ b →
+          cond (eqb (greenStep c green i) s) (f (greenStep c green i)) 0 + cond (has s (tab (greenStep c green) (suc i) n)) (f s) 0
+          ≡ cond (eqb (greenStep c green i) s || has s (tab (greenStep c green) (suc i) n)) (f s) 0
+      one s true e =
+          let q = eqb-true (greenStep c green i) s e in
+          rw (e, new s q, q) (omega arith)
+      one s false e = rw e (omega arith)
+
+pub green-over : (c : ℕ) (green : Green) (f : ℕ → ℕ) → Within c green →
+    sum (tab (λ k. f (greenStep c green k)) 1 (green .steps)) ≡ sum (tab (λ s. cond (inGreen c green s) (f s) 0) 1 c)
+unfolding inGreen greenSteps
+green-over c green f w = steps-over c green f (omega (arith, w .start)) (green .steps) 1 (omega arith) (omega (arith, w .steps))
 
 -- a green of no steps has none
 pub green-none : (c : ℕ) (green : Green) → green .steps ≡ 0 → greenSteps c green ≡ []

@@ -8,8 +8,8 @@ use lib.Dec.{eqb, ltb}
 use lib.ListN.{length, set, getD, replicate, length-set, length-replicate, List·getD-eq-default}
 use lib.Seq.{getD-set-same, getD-set-other}
 use borrow.Author.Tests.{eqb-true, eqb-false, eq-eqb, ne-eqb, ltb-true, ltb-false}
-use Rattle.lists.specs.Lists.{sum, zeros-at, tab, tab-length, tab-at, tab-is, tab-same, tab-sum, tab-zero}
-use Rattle.signal.specs.Turn.{turn, turn-pos, turn-le, turn-apart, earlier, earlier-pos, earlier-le, earlier-lands}
+use Rattle.lists.specs.Lists.{sum, zeros-at, tab, tab-length, tab-at, tab-is, tab-same, tab-sum, tab-one, tab-zero}
+use Rattle.signal.specs.Turn.{turn, turn-pos, turn-le, lands-apart, earlier, earlier-pos, earlier-le, earlier-lands}
 
 -- what lands in step s of the numbers p from the ith on, each t steps after its own
 unfoldable pub landing : ℕ → ℕ → ℕ → ℕ → List ℕ → ℕ
@@ -70,20 +70,11 @@ added-landed c t ps pos =
 
 -- nothing lands in step s but the number of the one step that lands there
 module _ (c t s m : ℕ) (pm : 0 < m) (hm : m ≤ c) (lands : turn c (m + t) ≡ s) where
-  apart : (i : ℕ) → 0 < i → i ≤ c → turn c (i + t) ≡ s → i ≡ m
-  apart i h r e =
-      let ei : t + 1 + (i - 1) ≡ i + t = omega arith in
-      let em : t + 1 + (m - 1) ≡ m + t = omega arith in
-      let q : i - 1 ≡ m - 1 =
-      turn-apart c (t + 1) (i - 1) (m - 1) (omega arith) (omega arith) (omega arith)
-      (ap (turn c) ei ∙ e ∙ sym lands ∙ sym (ap (turn c) em)) in
-      omega arith
-
   none : (i : ℕ) (ps : List ℕ) → m < i → i + length ps ≤ c + 1 → landing c t s i ps ≡ 0
   unfolding landing
   none i [] h r = refl
   none i (p ∷ ps) h r =
-      let ne : turn c (i + t) ≡ s → ⊥ = λ e. (let q : i ≡ m = apart i (omega arith) (omega arith) e in omega arith) in
+      let ne : turn c (i + t) ≡ s → ⊥ = λ e. (let q : i ≡ m = lands-apart c t i m (omega arith) (omega arith) pm hm (e ∙ sym lands) in omega arith) in
       rw (ne-eqb (turn c (i + t)) s ne, none (suc i) ps (omega arith) (omega arith))
 
   one : (i : ℕ) (ps : List ℕ) → 0 < i → i ≤ m → i + length ps ≤ c + 1 → landing c t s i ps ≡ getD ps (m - i) 0
@@ -100,7 +91,7 @@ module _ (c t s m : ℕ) (pm : 0 < m) (hm : m ≤ c) (lands : turn c (m + t) ≡
           rw (eq-eqb (turn c (i + t)) s l, none (suc i) ps (omega arith) (omega arith), z) (omega arith)
       go false e f =
           let ne : i ≡ m → ⊥ = eqb-false i m e in
-          let nl : turn c (i + t) ≡ s → ⊥ = λ x. ne (apart i p0 (omega arith) x) in
+          let nl : turn c (i + t) ≡ s → ⊥ = λ x. ne (lands-apart c t i m p0 (omega arith) pm hm (x ∙ sym lands)) in
           let z : m - i ≡ suc (m - suc i) = omega arith in
           rw (ne-eqb (turn c (i + t)) s nl, f (omega arith), z) (omega arith)
 
@@ -133,28 +124,14 @@ untouched-on c t i v run₀ run pos within u =
     record {
       same = λ m h r.
           let ne : turn c (m + t) - 1 ≡ turn c (i + t) - 1 → ⊥ =
-          λ e. (let q : m ≡ i = apart c t (turn c (i + t)) i pos within refl m (omega arith) r (omega (arith, turn-pos c (m + t), turn-pos c (i + t))) in omega arith) in
+          λ e. (let q : m ≡ i = lands-apart c t m i (omega arith) r pos within (omega (arith, turn-pos c (m + t), turn-pos c (i + t))) in omega arith) in
           getD-set-other run (turn c (i + t) - 1) (turn c (m + t) - 1) v 0 ne ∙ u .same m (omega arith) r;
     }
 
 -- nothing is lost: the cycle adds to what its numbers add to
-one-step : (c n p i : ℕ) → 0 < n → n < i + c → i ≤ n → sum (tab (λ s. cond (eqb n s) p 0) i c) ≡ p
-unfolding sum tab
-one-step zero n p i pos h r = absurd (omega arith)
-one-step (suc c) n p i pos h r = go (eqb n i) refl (λ (r′ : suc i ≤ n). one-step c n p (suc i) pos (omega arith) r′)
-  where
-    rest : (k m : ℕ) → n < m → sum (tab (λ s. cond (eqb n s) p 0) m k) ≡ 0
-    rest zero m l = refl
-    rest (suc k) m l = rw (ne-eqb n m (λ e. omega arith), rest k (suc m) (omega arith))
-
-    go : (b : Bool) → eqb n i ≡ b → (suc i ≤ n → sum (tab (λ s. cond (eqb n s) p 0) (suc i) c) ≡ p)
-        → cond (eqb n i) p 0 + sum (tab (λ s. cond (eqb n s) p 0) (suc i) c) ≡ p
-    go true e f = rw (e, rest c (suc i) (omega (arith, eqb-true n i e))) (omega arith)
-    go false e f = let ne = eqb-false n i e in rw (e, f (omega arith)) (omega arith)
-
 pub landed-sum : (c t i : ℕ) (ps : List ℕ) → 0 < c → sum (tab (λ s. landing c t s i ps) 1 c) ≡ sum ps
 unfolding landing sum
 landed-sum c t i [] pos = tab-zero 1 c
 landed-sum c t i (p ∷ ps) pos =
     tab-sum (λ s. cond (eqb (turn c (i + t)) s) p 0) (λ s. landing c t s (suc i) ps) 1 c
-    ∙ rw (one-step c (turn c (i + t)) p 1 (turn-pos c (i + t)) (omega (arith, turn-le c (i + t) pos)) (turn-pos c (i + t)), landed-sum c t (suc i) ps pos)
+    ∙ rw (tab-one c (turn c (i + t)) p 1 (omega (arith, turn-le c (i + t) pos)) (turn-pos c (i + t)), landed-sum c t (suc i) ps pos)
