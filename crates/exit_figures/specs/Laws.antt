@@ -59,10 +59,10 @@ pub permille-next : (part whole : ℕ) → 0 < whole → 1000 * part < (permille
 unfolding permilleOf
 permille-next part whole pos = rw (ne-eqb whole 0 (λ e. omega arith)) (omega (arith, div-add-mod (1000 * part) whole, mod-lt (1000 * part) {m = whole} pos))
 
--- at most 1000 of a part
 pub thousandths-le : (part whole : ℕ) → part ≤ whole → 1000 * part / whole ≤ 1000
 thousandths-le part whole h = div-le-of-le-mul whole (omega arith)
 
+-- at most 1000 of a part
 pub permille-le : (part whole : ℕ) → part ≤ whole → permilleOf part whole ≤ 1000
 unfolding permilleOf
 permille-le part whole h = go (eqb whole 0)

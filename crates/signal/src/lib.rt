@@ -60,7 +60,7 @@ pub fn step_at(at: usize) -> Step
     requires { ⌜ at < 1000 ⌝ }
     ensures { λ r. ⌜ r .0 ≡ at + 1 ⌝ }
 {
-    step_after(Post(at as u32))
+    Step(at as u32 + 1)
 }
 
 // Whether a step is one of a green's: fewer than its length stand between its start and the step.
