@@ -1,6 +1,6 @@
 // Platoon discharge: what one signalised entry sends into the segment in each step of a cycle.
 ghost use mathlib.Core.Path.{_≡_};
-ghost use Prim.Native.Nat.{_+_, _-_, _*_, _/_, _≤_, _<_, min};
+ghost use Prim.Native.Nat.{_*_, _/_, _≤_, _<_};
 ghost use lib.ListN.{length, replicate};
 ghost use Rattle.movements.specs.Movements.{entryLimit, flowLimit};
 ghost use Rattle.signal.specs.Greens.{Within};

@@ -1,5 +1,4 @@
 use native.Mathlib.Omega.{arith}
-use mathlib.Core.Path.{refl}
 use Rattle.platoon.specs.Discharge.{queueOf, carried, onGreen}
 use Rattle.platoon.specs.Conserved.{on-green-le}
 use Rattle.platoon.proofs.Serving.{carried-small, arriving-small}
