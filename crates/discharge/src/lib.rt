@@ -2,10 +2,10 @@
 ghost use mathlib.Core.Path.{_≡_};
 ghost use Prim.Native.Nat.{_*_, _≤_};
 ghost use lib.ListN.{length};
+ghost use Rattle.refusal.specs.Refusal.{ok};
 ghost use Rattle.validation.specs.Ranges.{Ranges};
 ghost use Rattle.validation.specs.Validation.{checkedOf};
-ghost use Rattle.metering.specs.Metering.{discharged as dischargedOf};
-ghost use Rattle.discharge.specs.Discharge.{Calls, acceptOf, written};
+ghost use Rattle.discharge.specs.Discharge.{Calls, acceptOf, answerOf, written};
 use segment::Segment;
 use validation::Checked;
 
@@ -33,7 +33,7 @@ fn accept(bytes: &[u8], room: usize) -> Checked
 
 fn write(s: Segment, profile: &mut [u32]) -> Discharged
     requires { ⌜ Ranges s × (3 * s .cycle ≤ length (now profile)) ⌝ }
-    ensures { λ r. ⌜ r ≡ Discharged.Volumes (dischargedOf (s .cycle) (s .left)) (dischargedOf (s .cycle) (s .through)) (dischargedOf (s .cycle) (s .right)) ⌝ }
+    ensures { λ r. ⌜ r ≡ answerOf (ok s) ⌝ }
     ensures { λ _. ⌜ now (profile .exit) ≡ written s (now (profile .entry)) ⌝ }
 {
     let one = s.cycle as usize;

@@ -2,6 +2,7 @@
 ghost use mathlib.Core.Path.{_≡_};
 ghost use Prim.Native.Nat.{_≤_};
 ghost use lib.ListN.{length};
+ghost use Rattle.validation.specs.Validation.{leastCycle, mostCycle};
 ghost use Rattle.validation.specs.Ranges.{EntryRanges};
 ghost use Rattle.metering.specs.Metering.{discharged as dischargedOf};
 ghost use Rattle.entries.specs.Entries.{entryProfile};
@@ -9,7 +10,7 @@ use segment::Entry;
 
 // One entry's profile over a run of the cycle's length, and its discharge volume.
 pub fn discharge_entry(c: u32, e: Entry, run: &mut [u32]) -> u32
-    requires { ⌜ (30 ≤ c) × (c ≤ 240) × (length (now run) ≡ c) × EntryRanges c e ⌝ }
+    requires { ⌜ (leastCycle ≤ c) × (c ≤ mostCycle) × (length (now run) ≡ c) × EntryRanges c e ⌝ }
     ensures { λ r. ⌜ r ≡ dischargedOf c e ⌝ }
     ensures { λ _. ⌜ now (run .exit) ≡ entryProfile c e ⌝ }
 {

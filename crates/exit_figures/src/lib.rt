@@ -32,12 +32,12 @@ fn on_green(green: Green, run: &[u32]) -> u64
     ensures { λ r. ⌜ r ≡ onGreen green (now (run .entry)) ⌝ }
 {
     let c = run.len() as u32;
-    let g = green.steps;
     let mut arrived: u64 = 0;
-    let mut k: u32 = 1;
-    while k <= g {
-        let at = signal::index(signal::green_step(c, green, k));
-        arrived += run[at] as u64;
+    let mut k = 0;
+    while k < run.len() {
+        if signal::in_green(c, green, signal::step_at(k)) {
+            arrived += run[k] as u64;
+        }
         k += 1;
     }
     arrived
@@ -68,7 +68,7 @@ pub fn figures(green: Green, run: &[u32]) -> ExitFigures
 }
 
 // Whether a flow leaves no critical headway, in ms, in its step.
-pub fn is_blocked(flow: u32, headway: u32) -> bool
+fn is_blocked(flow: u32, headway: u32) -> bool
     ensures { λ r. ⌜ r ≡ blocked flow headway ⌝ }
 {
     3600000000 < (flow as u64) * (headway as u64)

@@ -8,7 +8,7 @@ use segment::Entry;
 use segment::Segment;
 
 // The capacity of a signalised entry, in whole veh/h.
-pub fn capacity(saturation: u32, green: u32, cycle: u32) -> u32
+fn capacity(saturation: u32, green: u32, cycle: u32) -> u32
     requires { ⌜ (0 < cycle) × (green ≤ cycle) ⌝ }
     ensures { λ r. ⌜ r ≡ capacityOf saturation green cycle ⌝ }
 {

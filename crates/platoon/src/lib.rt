@@ -1,10 +1,12 @@
 // Platoon discharge: what one signalised entry sends into the segment in each step of a cycle.
 ghost use mathlib.Core.Path.{_≡_};
-ghost use Prim.Native.Nat.{_+_, _-_, _*_, _/_, _≤_, _<_, min};
+ghost use Prim.Native.Nat.{_*_, _/_, _≤_, _<_};
 ghost use lib.ListN.{length, replicate};
+ghost use Rattle.movements.specs.Movements.{entryLimit, flowLimit};
 ghost use Rattle.signal.specs.Greens.{Within};
 ghost use Rattle.signal.specs.Landing.{added};
-ghost use Rattle.platoon.specs.Discharge.{profileOf, queueOf, served, servedOf};
+ghost use Rattle.platoon.specs.Discharge.{greenFlows, profileOf, queueOf, servedOf};
+use movements::flow_units;
 use signal::Green;
 
 // The queue of a green: what waits as it starts, what arrives while it lasts, what a step can serve.
@@ -49,7 +51,7 @@ fn release(green: Green, queue: Queue, run: &mut [u32])
     requires { ⌜ (length (now run) < 1000) × Within (length (now run)) green ⌝ }
     requires { ⌜ (queue .waiting ≤ 1000000000000) × (queue .arriving ≤ 1000000000000) ⌝ }
     requires { ⌜ now run ≡ replicate (length (now run)) 0 ⌝ }
-    ensures { λ _. ⌜ now (run .exit) ≡ added (length (now (run .entry))) (green .start .0) 1 (served (queue .arriving) (green .steps) (queue .rate) (green .steps) 1 (queue .waiting)) (now (run .entry)) ⌝ }
+    ensures { λ _. ⌜ now (run .exit) ≡ added (length (now (run .entry))) (green .start .0) 1 (greenFlows (green .steps) queue) (now (run .entry)) ⌝ }
 {
     let c = run.len() as u32;
     let g = green.steps;
@@ -71,22 +73,22 @@ fn release(green: Green, queue: Queue, run: &mut [u32])
 
 // The queue of a cycle of c steps at a discharge volume: what does not arrive on green waits when green starts.
 fn queue_of(c: u32, saturation: u32, arriving: u32, volume: u32) -> Queue
-    requires { ⌜ (c < 1000) × (saturation ≤ 12000) × (arriving ≤ 1000) × (volume ≤ 6000) ⌝ }
+    requires { ⌜ (c < 1000) × (saturation ≤ flowLimit) × (arriving ≤ 1000) × (volume ≤ entryLimit) ⌝ }
     ensures { λ r. ⌜ r ≡ queueOf c saturation arriving volume ⌝ }
 {
-    let all = 1000 * (volume as u64) * (c as u64);
+    let all = (flow_units(volume) as u64) * (c as u64);
     let on_green = all * (arriving as u64) / 1000;
     Queue {
         waiting: all - on_green,
         arriving: on_green,
-        rate: 1000 * saturation,
+        rate: flow_units(saturation),
     }
 }
 
 // Writes an entry's discharge profile over a run of the cycle's length.
 pub fn discharge(green: Green, saturation: u32, arriving: u32, volume: u32, run: &mut [u32])
     requires { ⌜ (length (now run) < 1000) × Within (length (now run)) green ⌝ }
-    requires { ⌜ (saturation ≤ 12000) × (arriving ≤ 1000) × (volume ≤ 6000) ⌝ }
+    requires { ⌜ (saturation ≤ flowLimit) × (arriving ≤ 1000) × (volume ≤ entryLimit) ⌝ }
     ensures { λ _. ⌜ now (run .exit) ≡ profileOf (length (now (run .entry))) green saturation arriving volume ⌝ }
 {
     runs::fill(run, 0);

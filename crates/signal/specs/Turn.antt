@@ -63,6 +63,15 @@ turn-apart c m i j h hi hj e = go (ltb ((m + i - 1) / c) ((m + j - 1) / c)) refl
         omega (arith, ltb-false ((m + i - 1) / c) ((m + j - 1) / c) p, ltb-false ((m + j - 1) / c) ((m + i - 1) / c) q) in
         omega (arith, turn-whole c (m + i) (omega arith), turn-whole c (m + j) (omega arith), ap (λ (z : ℕ). c * z) s)
 
+-- two steps of the cycle that lie t steps before the same one are the same
+pub lands-apart : (c t i j : ℕ) → 0 < i → i ≤ c → 0 < j → j ≤ c → turn c (i + t) ≡ turn c (j + t) → i ≡ j
+lands-apart c t i j hi li hj lj e =
+    let ei : t + 1 + (i - 1) ≡ i + t = omega arith in
+    let ej : t + 1 + (j - 1) ≡ j + t = omega arith in
+    let q : i - 1 ≡ j - 1 =
+    turn-apart c (t + 1) (i - 1) (j - 1) (omega arith) (omega arith) (omega arith) (ap (turn c) ei ∙ e ∙ sym (ap (turn c) ej)) in
+    omega arith
+
 -- the one step from 1 to c that stands t steps before step s
 unfoldable pub earlier : ℕ → ℕ → ℕ → ℕ
 earlier c t s = turn c (s + (c - t % c))

@@ -16,14 +16,14 @@ pub struct Green {
     pub steps: u32,
 }
 
-pub fn step_after(p: Post) -> Step
+fn step_after(p: Post) -> Step
     requires { ⌜ p .0 < 1000 ⌝ }
     ensures { λ r. ⌜ r .0 ≡ p .0 + 1 ⌝ }
 {
     Step(p.0 + 1)
 }
 
-pub fn post_before(s: Step) -> Post
+fn post_before(s: Step) -> Post
     requires { ⌜ 0 < s .0 ⌝ }
     ensures { λ r. ⌜ r .0 ≡ s .0 - 1 ⌝ }
 {
@@ -55,11 +55,23 @@ pub fn index(s: Step) -> usize
     (s.0 - 1) as usize
 }
 
-// Whether a step is one of a green's.
+// The step whose number stands at a place of a list of a cycle's.
+pub fn step_at(at: usize) -> Step
+    requires { ⌜ at < 1000 ⌝ }
+    ensures { λ r. ⌜ r .0 ≡ at + 1 ⌝ }
+{
+    Step(at as u32 + 1)
+}
+
+// Whether a step is one of a green's: fewer than its length stand between its start and the step.
 pub fn in_green(c: u32, green: Green, s: Step) -> bool
     requires { ⌜ (c < 1000) × Within c green × (0 < s .0) × (s .0 ≤ c) ⌝ }
     ensures { λ r. ⌜ r ≡ inGreen c green (s .0) ⌝ }
 {
     let before = post_before(s);
-    (before.0 + (c - green.start.0)) % c < green.steps
+    let mut between = before.0 + (c - green.start.0);
+    if c <= between {
+        between -= c;
+    }
+    between < green.steps
 }

@@ -7,6 +7,7 @@ use lib.Dec.{leb, ltb}
 use lib.ListN.{length}
 use borrow.Author.Tests.{leb-true, ltb-true, eqb-true}
 use Rattle.refusal.specs.Refusal.{ok, need-passed, need-rest, both}
+use Rattle.movements.specs.Movements.{entryLimit, flowLimit}
 use Rattle.movements.specs.declared.Counts.{Counts}
 use Rattle.signal.specs.declared.Green.{Green}
 use Rattle.signal.specs.Greens.{Within}
@@ -14,23 +15,23 @@ use Rattle.segment.specs.declared.Entry.{Entry}
 use Rattle.segment.specs.declared.Segment.{Segment}
 use Rattle.segment.specs.Layout.{size}
 use Rattle.segment.specs.Segment.{segmentOf}
-use Rattle.validation.specs.Validation.{cycleFits, runningFits, headwayFits, entryFits, exitsFit, volumesFit, greenFits, greensFit, seedsAdd, checkOf}
+use Rattle.validation.specs.Validation.{leastCycle, mostCycle, leastRunning, mostRunning, leastHeadway, mostHeadway, mostArriving, cycleFits, runningFits, headwayFits, entryFits, exitsFit, volumesFit, greenFits, greensFit, seedsAdd, checkOf}
 
 pub record EntryRanges (c : ℕ) (e : Entry) : Type 0 where
-  pub volume : e .volume ≤ 6000
-  pub saturation : e .saturation ≤ 12000
-  pub arriving : e .arriving ≤ 1000
+  pub volume : e .volume ≤ entryLimit
+  pub saturation : e .saturation ≤ flowLimit
+  pub arriving : e .arriving ≤ mostArriving
   pub green : Within c (e .green)
 
 pub record Ranges (s : Segment) : Type 0 where
-  pub cycle : (30 ≤ s .cycle) × (s .cycle ≤ 240)
-  pub running : (1000 ≤ s .running) × (s .running ≤ 300000)
-  pub headway : (1000 ≤ s .headway) × (s .headway ≤ 10000)
+  pub cycle : (leastCycle ≤ s .cycle) × (s .cycle ≤ mostCycle)
+  pub running : (leastRunning ≤ s .running) × (s .running ≤ mostRunning)
+  pub headway : (leastHeadway ≤ s .headway) × (s .headway ≤ mostHeadway)
   pub left : EntryRanges (s .cycle) (s .left)
   pub through : EntryRanges (s .cycle) (s .through)
   pub right : EntryRanges (s .cycle) (s .right)
-  pub access : s .access ≤ 6000
-  pub exits : (s .exits .left ≤ 12000) × (s .exits .through ≤ 12000) × (s .exits .right ≤ 12000) × (s .exits .access ≤ 12000)
+  pub access : s .access ≤ entryLimit
+  pub exits : (s .exits .left ≤ flowLimit) × (s .exits .through ≤ flowLimit) × (s .exits .right ≤ flowLimit) × (s .exits .access ≤ flowLimit)
   pub leftGreen : Within (s .cycle) (s .downstream .left)
   pub throughGreen : Within (s .cycle) (s .downstream .through)
   pub rightGreen : Within (s .cycle) (s .downstream .right)
@@ -46,29 +47,29 @@ green-range c g e =
 
 entry-range : (c : ℕ) (e : Entry) → entryFits e ≡ true → greenFits c (e .green) ≡ true → EntryRanges c e
 entry-range c e h g =
-    let b = both (leb (e .volume) 6000 && leb (e .saturation) 12000) (leb (e .arriving) 1000) h in
-    let a = both (leb (e .volume) 6000) (leb (e .saturation) 12000) (b .0) in
+    let b = both (leb (e .volume) entryLimit && leb (e .saturation) flowLimit) (leb (e .arriving) mostArriving) h in
+    let a = both (leb (e .volume) entryLimit) (leb (e .saturation) flowLimit) (b .0) in
     record {
-      volume = leb-true (e .volume) 6000 (a .0);
-      saturation = leb-true (e .saturation) 12000 (a .1);
-      arriving = leb-true (e .arriving) 1000 (b .1);
+      volume = leb-true (e .volume) entryLimit (a .0);
+      saturation = leb-true (e .saturation) flowLimit (a .1);
+      arriving = leb-true (e .arriving) mostArriving (b .1);
       green = green-range c (e .green) g;
     }
 
-exits-range : (v : Counts) → exitsFit v ≡ true → (v .left ≤ 12000) × (v .through ≤ 12000) × (v .right ≤ 12000) × (v .access ≤ 12000)
+exits-range : (v : Counts) → exitsFit v ≡ true → (v .left ≤ flowLimit) × (v .through ≤ flowLimit) × (v .right ≤ flowLimit) × (v .access ≤ flowLimit)
 exits-range v h =
-    let a = both (leb (v .left) 12000 && leb (v .through) 12000 && leb (v .right) 12000) (leb (v .access) 12000) h in
-    let r = both (leb (v .left) 12000 && leb (v .through) 12000) (leb (v .right) 12000) (a .0) in
-    let t = both (leb (v .left) 12000) (leb (v .through) 12000) (r .0) in
-    (leb-true (v .left) 12000 (t .0), leb-true (v .through) 12000 (t .1), leb-true (v .right) 12000 (r .1), leb-true (v .access) 12000 (a .1))
+    let a = both (leb (v .left) flowLimit && leb (v .through) flowLimit && leb (v .right) flowLimit) (leb (v .access) flowLimit) h in
+    let r = both (leb (v .left) flowLimit && leb (v .through) flowLimit) (leb (v .right) flowLimit) (a .0) in
+    let t = both (leb (v .left) flowLimit) (leb (v .through) flowLimit) (r .0) in
+    (leb-true (v .left) flowLimit (t .0), leb-true (v .through) flowLimit (t .1), leb-true (v .right) flowLimit (r .1), leb-true (v .access) flowLimit (a .1))
 
 pub tests-ranges : (s : Segment) → cycleFits s ≡ true → runningFits s ≡ true → headwayFits s ≡ true → volumesFit s ≡ true → greensFit s ≡ true →
     seedsAdd (s .seeds) ≡ true → Ranges s
 unfolding cycleFits runningFits headwayFits volumesFit greensFit
 tests-ranges s h7 h8 h9 h10 h11 h12 =
     let c = s .cycle in
-    let v5 = both (entryFits (s .left) && entryFits (s .through) && entryFits (s .right) && leb (s .access) 6000) (exitsFit (s .exits)) h10 in
-    let v4 = both (entryFits (s .left) && entryFits (s .through) && entryFits (s .right)) (leb (s .access) 6000) (v5 .0) in
+    let v5 = both (entryFits (s .left) && entryFits (s .through) && entryFits (s .right) && leb (s .access) entryLimit) (exitsFit (s .exits)) h10 in
+    let v4 = both (entryFits (s .left) && entryFits (s .through) && entryFits (s .right)) (leb (s .access) entryLimit) (v5 .0) in
     let v3 = both (entryFits (s .left) && entryFits (s .through)) (entryFits (s .right)) (v4 .0) in
     let v2 = both (entryFits (s .left)) (entryFits (s .through)) (v3 .0) in
     let l = greenFits c (s .left .green) in
@@ -82,13 +83,13 @@ tests-ranges s h7 h8 h9 h10 h11 h12 =
     let g3 = both (l && t) r (g4 .0) in
     let g2 = both l t (g3 .0) in
     record {
-      cycle = within 30 c 240 h7;
-      running = within 1000 (s .running) 300000 h8;
-      headway = within 1000 (s .headway) 10000 h9;
+      cycle = within leastCycle c mostCycle h7;
+      running = within leastRunning (s .running) mostRunning h8;
+      headway = within leastHeadway (s .headway) mostHeadway h9;
       left = entry-range c (s .left) (v2 .0) (g2 .0);
       through = entry-range c (s .through) (v2 .1) (g2 .1);
       right = entry-range c (s .right) (v3 .1) (g3 .1);
-      access = leb-true (s .access) 6000 (v4 .1);
+      access = leb-true (s .access) entryLimit (v4 .1);
       exits = exits-range (s .exits) (v5 .1);
       leftGreen = green-range c (s .downstream .left) (g4 .1);
       throughGreen = green-range c (s .downstream .through) (g5 .1);

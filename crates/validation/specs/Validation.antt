@@ -6,6 +6,7 @@ use mathlib.Core.List.{List}
 use lib.Dec.{leb, ltb, eqb}
 use lib.ListN.{length}
 use Rattle.refusal.specs.Refusal.{Or, refused, ok, need}
+use Rattle.movements.specs.Movements.{entryLimit, flowLimit}
 use Rattle.movements.specs.declared.Counts.{Counts}
 use Rattle.movements.specs.declared.Seeds.{Seeds}
 use Rattle.signal.specs.declared.Green.{Green}
@@ -16,24 +17,48 @@ use Rattle.segment.specs.Segment.{exhibit, segmentOf}
 use Rattle.validation.specs.declared.Checked.{Checked}
 use Rattle.validation.specs.declared.Checked.the-variants.{Refused, Valid}
 
+-- the ends of a record's ranges
+abbrev pub leastCycle : ℕ
+leastCycle = 30
+
+abbrev pub mostCycle : ℕ
+mostCycle = 240
+
+-- in ms
+abbrev pub leastRunning : ℕ
+leastRunning = 1000
+
+abbrev pub mostRunning : ℕ
+mostRunning = 300000
+
+abbrev pub leastHeadway : ℕ
+leastHeadway = 1000
+
+abbrev pub mostHeadway : ℕ
+mostHeadway = 10000
+
+-- in thousandths
+abbrev pub mostArriving : ℕ
+mostArriving = 1000
+
 unfoldable pub cycleFits : Segment → Bool
-cycleFits s = leb 30 (s .cycle) && leb (s .cycle) 240
+cycleFits s = leb leastCycle (s .cycle) && leb (s .cycle) mostCycle
 
 unfoldable pub runningFits : Segment → Bool
-runningFits s = leb 1000 (s .running) && leb (s .running) 300000
+runningFits s = leb leastRunning (s .running) && leb (s .running) mostRunning
 
 unfoldable pub headwayFits : Segment → Bool
-headwayFits s = leb 1000 (s .headway) && leb (s .headway) 10000
+headwayFits s = leb leastHeadway (s .headway) && leb (s .headway) mostHeadway
 
 -- volume, saturation, arriving on green
 abbrev pub entryFits : Entry → Bool
-entryFits e = leb (e .volume) 6000 && leb (e .saturation) 12000 && leb (e .arriving) 1000
+entryFits e = leb (e .volume) entryLimit && leb (e .saturation) flowLimit && leb (e .arriving) mostArriving
 
 abbrev pub exitsFit : Counts → Bool
-exitsFit v = leb (v .left) 12000 && leb (v .through) 12000 && leb (v .right) 12000 && leb (v .access) 12000
+exitsFit v = leb (v .left) flowLimit && leb (v .through) flowLimit && leb (v .right) flowLimit && leb (v .access) flowLimit
 
 unfoldable pub volumesFit : Segment → Bool
-volumesFit s = entryFits (s .left) && entryFits (s .through) && entryFits (s .right) && leb (s .access) 6000 && exitsFit (s .exits)
+volumesFit s = entryFits (s .left) && entryFits (s .through) && entryFits (s .right) && leb (s .access) entryLimit && exitsFit (s .exits)
 
 -- post to c - 1, length to c
 abbrev pub greenFits : ℕ → Green → Bool

@@ -2,6 +2,8 @@
 ghost use mathlib.Core.Path.{_≡_};
 ghost use Rattle.validation.specs.Validation.{checkOf, checkedOf, cycleFits, entryFits, exitsFit, greenFits, greensFit, headwayFits, rowAdds, runningFits, seedsAdd, volumesFit};
 use movements::Counts;
+use movements::ENTRY_LIMIT;
+use movements::FLOW_LIMIT;
 use movements::Seeds;
 use segment::Entry;
 use segment::Segment;
@@ -34,13 +36,16 @@ fn headway_fits(s: Segment) -> bool
 fn entry_fits(e: Entry) -> bool
     ensures { λ b. ⌜ b ≡ entryFits e ⌝ }
 {
-    (e.volume <= 6000) & (e.saturation <= 12000) & (e.arriving <= 1000)
+    (e.volume <= ENTRY_LIMIT) & (e.saturation <= FLOW_LIMIT) & (e.arriving <= 1000)
 }
 
 fn exits_fit(v: Counts) -> bool
     ensures { λ b. ⌜ b ≡ exitsFit v ⌝ }
 {
-    (v.left <= 12000) & (v.through <= 12000) & (v.right <= 12000) & (v.access <= 12000)
+    (v.left <= FLOW_LIMIT)
+        & (v.through <= FLOW_LIMIT)
+        & (v.right <= FLOW_LIMIT)
+        & (v.access <= FLOW_LIMIT)
 }
 
 fn volumes_fit(s: Segment) -> bool
@@ -49,7 +54,7 @@ fn volumes_fit(s: Segment) -> bool
     entry_fits(s.left)
         & entry_fits(s.through)
         & entry_fits(s.right)
-        & (s.access <= 6000)
+        & (s.access <= ENTRY_LIMIT)
         & exits_fit(s.exits)
 }
 
@@ -83,7 +88,7 @@ fn seeds_add(s: Seeds) -> bool
     row_adds(s.left) & row_adds(s.through) & row_adds(s.right) & row_adds(s.access)
 }
 
-// The bytes, or the lowest of the refusals 6 to 12 that it meets.
+// The segment of a record, or the lowest of the refusals 6 to 12 that its bytes meet.
 pub fn check(bytes: &[u8]) -> Checked
     ensures { λ r. ⌜ r ≡ checkedOf (checkOf (now (bytes .entry))) ⌝ }
 {

@@ -10,7 +10,7 @@ discharged-requires : tie.Need-discharged-requires
 discharged-requires c κs = search needs
 
 discharge-requires : tie.Need-discharge-requires
-discharge-requires c κs = let p = c .before .before .before .pre in ((omega arith, rw (p .2) (p .3 .green)), (p .3 .saturation, p .3 .arriving, discharged-le (c .before .before .before .args .c) _ _ (p .3) (c .before .discharged .ensures)))
+discharge-requires c κs = let p = c .before .before .before .pre in ((omega arith, rw (p .2) (p .3 .green)), (omega (arith, p .3 .saturation, p .3 .arriving), omega (arith, p .3 .saturation, p .3 .arriving), discharged-le (c .before .before .before .args .c) _ _ (p .3) (c .before .discharged .ensures)))
 
 same-length : tie.Need-same-length
 same-length c = search needs

@@ -19,7 +19,7 @@ arrived-requires : tie.Need-arrived-requires Inv-loop μ-loop
 arrived-requires c κs = omega arith
 
 sub-serve : tie.Need-sub-serve Inv-loop μ-loop
-sub-serve c = reaches (c .before .before .loop .inv) (omega arith) (c .before .before .before .before .pre .0 .1) _ (c .arrived .ensures)
+sub-serve c = omega (arith, reaches (c .before .before .loop .inv) (omega arith) (c .before .before .before .before .pre .0 .1) _ (c .arrived .ensures))
 
 add-serve : tie.Need-add-serve Inv-loop μ-loop
 add-serve c = omega (arith, reached-small (c .before .before .loop .inv) (omega arith) (c .before .before .before .before .pre .0 .1) _ (c .arrived .ensures) (c .before .before .before .before .pre .0 .0) (c .before .before .before .before .pre .1 .0 .1), reaches (c .before .before .loop .inv) (omega arith) (c .before .before .before .before .pre .0 .1) _ (c .arrived .ensures), c .before .before .loop .inv .waits, c .before .before .before .before .pre .1 .0 .0)
