@@ -3,10 +3,11 @@ use Prim.Native.Nat.{ℕ, _+_, _*_, _≤_}
 use native.Mathlib.Omega.{arith}
 use native.Mathlib.Nat.{mul-le-mul-right}
 use mathlib.Core.Bool.{Bool, true, false}
-use mathlib.Core.Path.{_≡_, refl}
+use mathlib.Core.Path.{_≡_, refl, sym}
 use mathlib.Core.List.{List, [], _∷_, _++_}
 use lib.Dec.{ltb}
-use lib.ListN.{length, drop, length-append}
+use lib.ListN.{length, take, drop, length-append}
+use lib.Seq.{take-at}
 use Rattle.refusal.specs.Refusal.{Or, refused, ok, pick}
 use Rattle.text.specs.Text.{Wrote}
 use Rattle.text.specs.Appending.{wrote-fits, wrote-within}
@@ -49,6 +50,10 @@ pub report-whole : (l : List ℕ) {b b′ : List ℕ} {n : ℕ} → Wrote b 0 (i
 report-whole l w h =
     let z : 0 + length (inputText l) ≡ length (inputText l) = omega arith in
     rw z at (wrote-fits w (omega (arith, input-text l)))
+
+-- so the part of that length is the text
+pub report-part : (l : List ℕ) {b b′ : List ℕ} {n : ℕ} → Wrote b 0 (inputText l) b′ n → 262144 ≤ length b → take n b′ ≡ inputText l
+report-part l {b} w h = let e = report-whole l w h in rw (e .0) (take-at (inputText l) (drop (length (inputText l)) b) _ (sym (e .1)))
 
 -- whatever the buffer, the length handed back lies within it
 pub report-within : {text b b′ : List ℕ} {n : ℕ} → Wrote b 0 text b′ n → n ≤ length b′
