@@ -2,6 +2,7 @@
 ghost use mathlib.Core.Path.{_≡_};
 ghost use lib.ListN.{length};
 ghost use Rattle.text.specs.Text.{Wrote};
+ghost use Rattle.segment.specs.Layout.{size};
 ghost use Rattle.propagation.specs.Propagation.{profiles};
 ghost use Rattle.propagation.specs.Steps.{Room};
 ghost use Rattle.archive_format.specs.Archive.{filedFrom};
@@ -19,7 +20,7 @@ fn segment_text(
     first: &mut [u32],
     second: &mut [u32],
 ) -> usize
-    requires { ⌜ (length (now bytes) ≡ 68) × Room 240 (profiles (now output) (now first) (now second)) ⌝ }
+    requires { ⌜ (length (now bytes) ≡ size) × Room 240 (profiles (now output) (now first) (now second)) ⌝ }
     ensures { λ r. ⌜ Wrote (now (text .entry)) at (segmentText (now (bytes .entry))) (now (text .exit)) r ⌝ }
 {
     let number = octets::word4_at(bytes, 0);
@@ -39,7 +40,7 @@ fn records_text(
     second: &mut [u32],
 ) -> usize
     requires { ⌜ Runs count (now archive) × Room 240 (profiles (now output) (now first) (now second)) ⌝ }
-    ensures { λ r. ⌜ Wrote (now (text .entry)) at (recordsText (filedFrom 68 count (now (archive .entry)) 0)) (now (text .exit)) r ⌝ }
+    ensures { λ r. ⌜ Wrote (now (text .entry)) at (recordsText (filedFrom size count (now (archive .entry)) 0)) (now (text .exit)) r ⌝ }
 {
     let mut left = count;
     let mut place: usize = 0;

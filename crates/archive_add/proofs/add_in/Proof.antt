@@ -1,7 +1,8 @@
-use Prim.Native.Nat.{_≤_}
+use Prim.Native.Nat.{_+_, _*_, _≤_, _<_}
 use native.Mathlib.Omega.{arith}
 use mathlib.Core.Path.{sym, _∙_}
 use lib.ListN.{length}
+use Rattle.archive_format.specs.Archive.{titleLimit}
 use borrow.Author.Tests.{not-true, not-false}
 use borrow.Author.Needs.{needs}
 use Rattle.archive_read.specs.Opening.{Held, held, held-fits}
@@ -12,8 +13,11 @@ use Rattle.archive_add.proofs.add_in.Tie as tie
 here : (c : tie.After-o2) → Held (c .before .before .before .before .before .before .before .args .e) (c .before .before .before .before .before .before .before .args .s .now) (c .o2 .given .0 .0) (c .o2 .given .0 .1 .0) (c .o2 .given .0 .1 .1 .0)
 here c = held (sym (c .before .before .open .ensures) ∙ c .o2 .given .1)
 
-title : (c : tie.Else2) → length (c .before .before .before .before .before .before .before .before .before .before .before .before .args .title .now) ≤ 40
+title : (c : tie.Else2) → length (c .before .before .before .before .before .before .before .before .before .before .before .before .args .title .now) ≤ titleLimit
 title c = short-title (c .before .before .before .before .before .before .before .before .before .before .before .before .args .title .now) (sym (c .before .before .title-fits .ensures) ∙ not-false _ (c .if2 .left))
+
+fits : (c : tie.Else3) → c .before .before .before .before .before .before .o2 .given .0 .1 .0 + c .before .before .before .before .before .before .before .before .before .before .before .before .before .args .e .size + 1 + length (c .before .before .before .before .before .before .before .before .before .before .before .before .before .args .title .now) + 2 * (c .before .before .before .before .before .before .o2 .given .0 .0) + 8 < 18446744073709551616
+fits c = omega (arith, held-fits _ _ (here (c .before .before .before .before .before .before)), title (c .before), c .before .before .before .before .before .before .before .before .before .before .before .before .before .good)
 
 open-requires : tie.Need-open-requires
 open-requires c κs = search needs
@@ -43,22 +47,22 @@ returns-4 : tie.Need-returns-4
 returns-4 c = add-low _ _ _ _ _ (here (c .before .before .before .before .before .before)) (c .before .before .before .before .if1 .left) (sym (c .before .before .before .title-fits .ensures) ∙ not-false _ (c .before .if2 .left)) (omega (arith, c .before .before .word4-at .ensures, c .if3 .taken))
 
 add-length : tie.Need-add-length
-add-length c = omega (arith, held-fits _ _ (here (c .before .before .before .before .before .before)), title (c .before), c .before .before .before .before .before .before .before .before .before .before .before .before .before .good)
+add-length c = omega (arith, fits c)
 
 add-length-2 : tie.Need-add-length-2
-add-length-2 c = omega (arith, held-fits _ _ (here (c .before .before .before .before .before .before)), title (c .before), c .before .before .before .before .before .before .before .before .before .before .before .before .before .good)
+add-length-2 c = omega (arith, fits c)
 
 add-length-3 : tie.Need-add-length-3
-add-length-3 c = omega (arith, held-fits _ _ (here (c .before .before .before .before .before .before)), title (c .before), c .before .before .before .before .before .before .before .before .before .before .before .before .before .good)
+add-length-3 c = omega (arith, fits c)
 
 mul-length : tie.Need-mul-length
-mul-length c = omega (arith, held-fits _ _ (here (c .before .before .before .before .before .before)), title (c .before), c .before .before .before .before .before .before .before .before .before .before .before .before .before .good)
+mul-length c = omega (arith, fits c)
 
 add-length-4 : tie.Need-add-length-4
-add-length-4 c = omega (arith, held-fits _ _ (here (c .before .before .before .before .before .before)), title (c .before), c .before .before .before .before .before .before .before .before .before .before .before .before .before .good)
+add-length-4 c = omega (arith, fits c)
 
 add-length-5 : tie.Need-add-length-5
-add-length-5 c = omega (arith, held-fits _ _ (here (c .before .before .before .before .before .before)), title (c .before), c .before .before .before .before .before .before .before .before .before .before .before .before .before .good)
+add-length-5 c = omega (arith, fits c)
 
 returns-5 : tie.Need-returns-5
 returns-5 c = add-narrow _ _ _ _ _ (here (c .before .before .before .before .before .before .before)) (c .before .before .before .before .before .if1 .left) (sym (c .before .before .before .before .title-fits .ensures) ∙ not-false _ (c .before .before .if2 .left)) (omega (arith, c .before .before .before .word4-at .ensures, c .before .if3 .left)) (c .if4 .taken)
