@@ -5,6 +5,7 @@ ghost use Rattle.archive_format.specs.Archive.{encode, segments};
 
 // The most records that an archive holds, and the longest title of one.
 pub const RECORD_LIMIT: usize = 512;
+
 pub const TITLE_LIMIT: usize = 40;
 
 // The size of a record and the two bytes that mark an archive of them.
