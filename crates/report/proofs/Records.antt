@@ -20,7 +20,7 @@ use Rattle.archive_format.specs.Reading.{Ran, ran}
 use Rattle.archive_read.specs.declared.opening.Opened.the-variants.{Invalid, Valid}
 use Rattle.archive_read.specs.Opening.{openedOf, invalid, Held, held, held-run, held-fits, held-filed}
 use Rattle.report_lines.specs.Lines.{archiveRefusedLine, recordText}
-use Rattle.report.specs.Report.{longest, segmentText, recordsText, archiveText, inputText}
+use Rattle.report.specs.Report.{inputLimit, longest, segmentText, recordsText, archiveText, inputText}
 use Rattle.report.specs.Running.{Runs}
 use Rattle.report.specs.Working.{same-answer, longest-room}
 
@@ -95,11 +95,11 @@ module _ (l : List ℕ) {b : List ℕ} {at : ℕ} {b′ : List ℕ} {p : ℕ} wh
   unfolding archiveText
   archive-read o v = rw (held-filed segments l (held o)) v
 
-  pub input-long : 65536 < length l → Wrote b at (archiveRefusedLine 2) b′ p → Wrote b at (inputText l) b′ p
+  pub input-long : inputLimit < length l → Wrote b at (archiveRefusedLine 2) b′ p → Wrote b at (inputText l) b′ p
   unfolding inputText
   input-long h v = rw (lt-ltb _ _ h) v
 
-  pub input-short : length l ≤ 65536 → Wrote b at (archiveText l) b′ p → Wrote b at (inputText l) b′ p
+  pub input-short : length l ≤ inputLimit → Wrote b at (archiveText l) b′ p → Wrote b at (inputText l) b′ p
   unfolding inputText
   input-short h v = rw (le-ltb _ _ h) v
 

@@ -8,6 +8,7 @@ ghost use Rattle.propagation.specs.Steps.{Room};
 ghost use Rattle.archive_format.specs.Archive.{filedFrom};
 ghost use Rattle.report.specs.Report.{archiveText, inputText, recordsText, segmentText};
 ghost use Rattle.report.specs.Running.{Runs};
+use crate::INPUT_LIMIT;
 use archive_format::SEGMENTS;
 use archive_read::opening::Opened;
 use archive_read::opening::open;
@@ -87,7 +88,7 @@ pub(crate) fn input_text(
     requires { ⌜ Room 240 (profiles (now output) (now first) (now second)) ⌝ }
     ensures { λ r. ⌜ Wrote (now (text .entry)) at (inputText (now (archive .entry))) (now (text .exit)) r ⌝ }
 {
-    if 65536 < archive.len() {
+    if INPUT_LIMIT < archive.len() {
         return report_lines::archive_refused_line(text, at, 2);
     }
     archive_text(text, at, archive, output, first, second)
