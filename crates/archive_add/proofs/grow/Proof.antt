@@ -65,7 +65,7 @@ same-length : tie.Need-same-length
 same-length c = search needs
 
 returns : tie.Need-returns
-returns c = whole-put _ _ _ _ _ _ (c .before .before .before .before .before .before .before .before .before .before .before .before .before .before .before .before .before .before .before .before .before .before .before .before .before .before .pre .held) (c .before .before .before .before .before .before .before .before .before .before .before .before .before .before .before .before .before .before .before .before .before .before .before .before .before .before .pre .enough) (c .before .before .before .before .before .before .before .before .before .before .before .before .before .before .before .before .before .before .before .put .ensures) (c .before .before .before .before .before .before .before .before .before .before .before .before .before .before .before .put-record .ensures) (c .before .before .before .before .before .before .before .before .before .before .put2 .ensures) (c .before .before .before .before .before .before .put-place .ensures) (c .before .before .put-end .ensures)
+returns c = let l = c .before .before .before .before .before .before in let p = l .before .before .before .before in let r = p .before .before .before .before .before in whole-put _ _ _ _ _ _ (start r .pre .held) (start r .pre .enough) (r .before .before .before .before .put .ensures) (r .put-record .ensures) (p .put2 .ensures) (l .put-place .ensures) (c .before .before .put-end .ensures)
 
 pub grow-spec : {M : Type 1} → statement M
 grow-spec =
