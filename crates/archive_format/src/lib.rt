@@ -3,9 +3,10 @@ ghost use mathlib.Core.Path.{_≡_};
 ghost use mathlib.Core.List.{[]};
 ghost use Rattle.archive_format.specs.Archive.{encode, segments};
 
-// The most records that an archive holds, and the longest title of one.
+// The most records that an archive holds.
 pub const RECORD_LIMIT: usize = 512;
 
+// The most bytes of a title.
 pub const TITLE_LIMIT: usize = 40;
 
 // The size of a record and the two bytes that mark an archive of them.
