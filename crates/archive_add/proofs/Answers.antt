@@ -3,18 +3,16 @@ use Prim.Native.Nat.{ℕ, _+_, _*_, _≤_, _<_}
 use native.Mathlib.Nat.{mul-le-mul, zero-add}
 use native.Mathlib.Omega.{arith}
 use mathlib.Core.Path.{_≡_, sym, ap, _∙_}
-use mathlib.Core.Bool.{true, false, _&&_}
+use mathlib.Core.Bool.{true, false}
 use mathlib.Core.List.{List, [], _∷_, _++_, append-assoc, append-nil}
-use lib.Dec.{leb}
 use lib.ListN.{length, take, drop, length-append}
 use lib.Seq.{take-at}
 use borrow.Author.Tests.{leb-true, le-leb, lt-leb, lt-ltb, le-ltb, eq-eqb, ne-eqb}
-use Rattle.refusal.specs.Refusal.{refused, ok, need}
+use Rattle.refusal.specs.Refusal.{refused, ok, need, both}
 use Rattle.octets.specs.Octets.{word4, bytes2}
 use Rattle.archive_format.specs.declared.Edition.{Edition}
 use Rattle.archive_format.specs.declared.Answer.the-variants.{Is, Refused}
-use Rattle.archive_format.specs.Archive.{Filed, Sized, body, places, encode, printables, filedFrom, decode, single, addTo, addOf}
-use Rattle.archive_format.specs.Reading.{both}
+use Rattle.archive_format.specs.Archive.{recordLimit, titleLimit, Filed, Sized, body, places, encode, titleFits, filedFrom, decode, single, addTo, addOf}
 use Rattle.archive_format.specs.Words.{Bytes}
 use Rattle.archive_format.specs.Decoded.{Shaped, Fit, decoded-is-fit, body-laid, places-laid}
 use Rattle.archive_format.specs.Encoded.{length-places, length-encode}
@@ -51,11 +49,11 @@ module _ (e : Edition) (l : List ℕ) {count t last : ℕ} (h : Held e l count t
   fit = decoded-is-fit e l (h .fs) (h .is)
 
   -- two bytes hold the new trailer's place
-  pub held-next : (n : ℕ) → Sized (e .size) → count < 512 → n ≤ 40 → t + e .size + 1 + n < 65536
+  pub held-next : (n : ℕ) → Sized (e .size) → count < recordLimit → n ≤ titleLimit → t + e .size + 1 + n < 65536
   held-next n k m s =
-      let b : t ≤ count * (e .size + 41) = rw (counted, reached) (body-bound (e .size) (h .fs) (fit .shaped)) in
-      let c : count + 1 ≤ 512 = omega arith in
-      let w : e .size + 41 ≤ 127 = omega arith in
+      let b : t ≤ count * (e .size + 1 + titleLimit) = rw (counted, reached) (body-bound (e .size) (h .fs) (fit .shaped)) in
+      let c : count + 1 ≤ recordLimit = omega arith in
+      let w : e .size + 1 + titleLimit ≤ 127 = omega arith in
       omega (arith, mul-le-mul c w)
 
   module _ (b ti : List ℕ) where
@@ -85,7 +83,7 @@ module _ (e : Edition) (l : List ℕ) {count t last : ℕ} (h : Held e l count t
 
 -- ---- the answers
 
-pub short-title : (ti : List ℕ) → (leb (length ti) 40 && printables ti) ≡ true → length ti ≤ 40
+pub short-title : (ti : List ℕ) → titleFits ti ≡ true → length ti ≤ titleLimit
 short-title ti f = leb-true _ _ (both _ _ f .0)
 
 module _ (e : Edition) (l b ti out : List ℕ) where
@@ -102,11 +100,11 @@ module _ (e : Edition) (l b ti out : List ℕ) where
     add-sized f = no 6 (rw (h .is, ne-eqb _ _ f))
 
     module _ (sized : length b ≡ e .size) where
-      pub add-untitled : (leb (length ti) 40 && printables ti) ≡ false → Adds e l b ti out (Refused 4) out
+      pub add-untitled : titleFits ti ≡ false → Adds e l b ti out (Refused 4) out
       unfolding addOf addTo need
       add-untitled f = no 4 (rw (h .is, eq-eqb _ _ sized, f))
 
-      module _ (fits : (leb (length ti) 40 && printables ti) ≡ true) where
+      module _ (fits : titleFits ti ≡ true) where
         pub add-low : word4 b 0 ≤ last → Adds e l b ti out (Refused 5) out
         unfolding addOf addTo need
         add-low f = no 5 (rw (h .is, eq-eqb _ _ sized, fits, ← h .last-is, le-ltb _ _ f))
@@ -117,11 +115,11 @@ module _ (e : Edition) (l b ti out : List ℕ) where
           add-narrow f = no 17 (rw (h .is, eq-eqb _ _ sized, fits, ← h .last-is, lt-ltb _ _ above, more-length e l h b ti sized, lt-leb _ _ f))
 
           module _ (room : t + e .size + 1 + length ti + 2 * count + 8 ≤ length out) where
-            pub add-full : 512 ≤ count → Adds e l b ti out (Refused 18) out
+            pub add-full : recordLimit ≤ count → Adds e l b ti out (Refused 18) out
             unfolding addOf addTo need
             add-full f = no 18 (rw (h .is, eq-eqb _ _ sized, fits, ← h .last-is, lt-ltb _ _ above, more-length e l h b ti sized, le-leb _ _ room, ← counted e l h, le-ltb _ _ f))
 
-            pub add-done : Bytes l → count < 512 → {r : ℕ} {out′ : List ℕ} → Wrote out 0 (grown e l count t b ti) out′ r → Adds e l b ti out (Is r) out′
+            pub add-done : Bytes l → count < recordLimit → {r : ℕ} {out′ : List ℕ} → Wrote out 0 (grown e l count t b ti) out′ r → Adds e l b ti out (Is r) out′
             unfolding addOf addTo need putAt
             add-done hb f {r} {out′} w =
                 let y : addOf e l b ti (length out) ≡ ok (encode e (h .fs ++ single b ti)) =

@@ -27,9 +27,18 @@ record-put b ti {d} {at} {o1} {a1} n {o2} {a2} {o3} {a3} short room w1 en w2 w3 
 
 -- ---- the whole, in five
 
-pub part-length : (l : List ℕ) (t count : ℕ) → t + 2 * count ≤ length l
-    → (length (take (t - 0) l) ≡ t) × (length (take (t + 2 * count - t) (drop t l)) ≡ 2 * count)
-part-length l t count h = (simp length-take (omega arith), simp (length-take, length-drop) (omega arith))
+-- the lengths of the two parts of the old archive
+pub record Cut (l : List ℕ) (t count : ℕ) : Type 0 where
+  pub body : length (take (t - 0) l) ≡ t
+  pub places : length (take (t + 2 * count - t) (drop t l)) ≡ 2 * count
+
+pub part-length : (l : List ℕ) (t count : ℕ) → t + 2 * count ≤ length l → Cut l t count
+part-length l t count h = record { body = simp length-take (omega arith); places = simp (length-take, length-drop) (omega arith) }
+
+-- the place reached, in a buffer as long as it was
+pub record Reached (d o : List ℕ) (a n : ℕ) : Type 0 where
+  pub place : a ≡ n
+  pub long : length o ≡ length d
 
 pub place-put : (p : ℕ) {d : List ℕ} {at x1 x2 : ℕ} {o : List ℕ} {a : ℕ} → x1 ≡ p % 256 → x2 ≡ p / 256
     → Wrote d at (x1 ∷ x2 ∷ []) o a → Wrote d at (bytes2 p) o a
@@ -45,7 +54,7 @@ pub whole-put : (e : Edition) (l : List ℕ) (count t : ℕ) (b ti : List ℕ) {
     → Wrote o3 a3 (bytes2 t) o4 a4 → Wrote o4 a4 (endBytes e (count + 1) a2) o5 a5 → Wrote d 0 (grown e l count t b ti) o5 a5
 unfolding grown
 whole-put e l count t b ti {d} {o1} {o2} {o3} {o4} {o5} {a1} {a2} {a3} {a4} {a5} inside room w1 w2 w3 w4 w5 =
-    let p : (length (take (t - 0) l) ≡ t) × (length (take (t + 2 * count - t) (drop t l)) ≡ 2 * count) = part-length l t count inside in
+    let p : Cut l t count = part-length l t count inside in
     let r : length (recordBytes b ti) ≡ length b + 1 + length ti = record-length b ti in
     let cut : t + 2 * count - t ≡ 2 * count = omega arith in
     let next : a2 ≡ t + length (recordBytes b ti) = omega (arith, w1 .place, w2 .place) in

@@ -6,7 +6,7 @@ use lib.ListN.{length, take, drop}
 use Rattle.octets.specs.Octets.{bytes2}
 use Rattle.archive_format.specs.declared.Edition.{Edition}
 use Rattle.archive_format.specs.declared.Answer.{Answer}
-use Rattle.archive_format.specs.Archive.{addOf, newLength, overwrite}
+use Rattle.archive_format.specs.Archive.{recordLimit, addOf, newLength, overwrite}
 
 -- a buffer with other bytes from a place on
 unfoldable pub putAt : List ℕ → ℕ → List ℕ → List ℕ
@@ -30,7 +30,7 @@ grown e l count t b ti =
 
 -- what writing it asks, by the lengths of the old archive, the record, the title and the buffer
 pub record Fits (count t old segment title room : ℕ) : Type 0 where
-  pub few : count < 512
+  pub few : count < recordLimit
   pub short : title < 256
   pub placed : t + segment + 1 + title < 65536
   pub held : t + 2 * count ≤ old

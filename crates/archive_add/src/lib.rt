@@ -2,23 +2,23 @@
 mod writing;
 
 ghost use mathlib.Core.Path.{_≡_};
-ghost use mathlib.Core.Bool.{_&&_};
-ghost use lib.Dec.{leb};
 ghost use lib.ListN.{length};
-ghost use Rattle.archive_format.specs.Archive.{Sized, printables, addOf, newLength, overwrite, segments};
+ghost use Rattle.archive_format.specs.Archive.{Sized, titleFits, addOf, newLength, overwrite, segments};
 ghost use Rattle.archive_add.specs.Writing.{Wrote, grown, Fits, Adds};
 use archive_format::Answer;
 use archive_format::Edition;
+use archive_format::RECORD_LIMIT;
 use archive_format::SEGMENTS;
+use archive_format::TITLE_LIMIT;
 use archive_read::opening;
 use opening::Opened;
 
-// A title of at most 40 bytes from 32 to 126.
+// A title that is not too long, of bytes from 32 to 126.
 fn title_fits(title: &[u8]) -> bool
-    ensures { λ r. ⌜ r ≡ (leb (length (now (title .entry))) 40 && printables (now (title .entry))) ⌝ }
+    ensures { λ r. ⌜ r ≡ titleFits (now (title .entry)) ⌝ }
 {
     let clean = opening::printable(title);
-    (title.len() <= 40) & clean
+    (title.len() <= TITLE_LIMIT) & clean
 }
 
 // Writes an archive that was read, with one record more: the old records, the new one, the old places, the new one's, the end.
@@ -71,7 +71,7 @@ fn add_in(e: Edition, s: &[u8], segment: &[u8], title: &[u8], out: &mut [u8]) ->
             if out.len() < length {
                 return Answer::Refused(17);
             }
-            if 512 <= count {
+            if RECORD_LIMIT <= count {
                 return Answer::Refused(18);
             }
             let n = grow(e, s, count, trailer, segment, title, out);

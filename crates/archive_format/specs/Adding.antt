@@ -9,11 +9,10 @@ use mathlib.Core.List.{List, [], _∷_, _++_}
 use lib.Dec.{leb, ltb}
 use lib.ListN.{length, take, drop, length-append}
 use borrow.Author.Tests.{leb-true, ltb-true, eqb-true, lt-ltb, eq-eqb, ne-eqb}
-use Rattle.refusal.specs.Refusal.{Or, refused, ok, andThen, need-passed, need-rest}
+use Rattle.refusal.specs.Refusal.{Or, refused, ok, andThen, need-passed, need-rest, both}
 use Rattle.octets.specs.Octets.{word4}
 use Rattle.archive_format.specs.declared.Edition.{Edition}
-use Rattle.archive_format.specs.Archive.{Filed, numberOf, body, encode, printables, titled, rising, lastNumber, filedAt, decode, countOf, placeOf, findIn, findOf, titleOf, single, addTo, addOf}
-use Rattle.archive_format.specs.Reading.{both}
+use Rattle.archive_format.specs.Archive.{recordLimit, titleLimit, Filed, numberOf, body, encode, printables, titled, rising, lastNumber, filedAt, decode, countOf, placeOf, findIn, findOf, titleOf, single, addTo, addOf}
 use Rattle.archive_format.specs.Decoded.{Shaped, Fit, decoded-is-fit}
 use Rattle.archive_format.specs.Encoded.{encoding-reads}
 use Rattle.archive_format.specs.Finding.{lookup, find-is, absent-is, title-is, lookup-more, lookup-after, find-more, find-after, find-above, place-more}
@@ -38,10 +37,10 @@ shaped-append size (f ∷ fs) gs h k = (h .0, h .1, shaped-append size fs gs (h 
 -- what adding asks of a record and its title, after the records of an archive
 pub record Accepts (e : Edition) (fs : List Filed) (b t : List ℕ) : Type 0 where
   pub sized : length b ≡ e .size
-  pub short : length t ≤ 40
+  pub short : length t ≤ titleLimit
   pub clean : printables t ≡ true
   pub above : lastNumber 0 fs < word4 b 0
-  pub free : length fs < 512
+  pub free : length fs < recordLimit
 
 pub fit-more : (e : Edition) (fs : List Filed) (b t : List ℕ) → Fit e fs → Accepts e fs b t → Fit e (fs ++ single b t)
 unfolding titled rising
@@ -62,7 +61,7 @@ accepted e fs b t room new a6 =
     let a5 : _ = need-rest _ _ _ _ a4 in
     let a17 : _ = need-rest _ _ _ _ a5 in
     let a18 : _ = need-rest _ _ _ _ a17 in
-    let title : (leb (length t) 40 ≡ true) × (printables t ≡ true) = both _ _ (need-passed _ _ _ _ a4) in (
+    let title : (leb (length t) titleLimit ≡ true) × (printables t ≡ true) = both _ _ (need-passed _ _ _ _ a4) in (
       record { sized = eqb-true _ _ (need-passed _ _ _ _ a6); short = leb-true _ _ (title .0); clean = title .1; above = ltb-true _ _ (need-passed _ _ _ _ a5); free = ltb-true _ _ (need-passed _ _ _ _ a18) },
       cc (need-rest _ _ _ _ a18),
     )

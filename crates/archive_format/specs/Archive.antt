@@ -7,9 +7,18 @@ use lib.Dec.{leb, ltb, eqb}
 use lib.ListN.{length, take, drop, getD}
 use Rattle.refusal.specs.Refusal.{Or, refused, ok, need, andThen, pick}
 use Rattle.octets.specs.Octets.{word2, word4, bytes2}
+use Rattle.segment.specs.Layout as layout
 use Rattle.archive_format.specs.declared.Edition.{Edition}
 use Rattle.archive_format.specs.declared.Answer.{Answer}
 use Rattle.archive_format.specs.declared.Answer.the-variants.{Is, Refused}
+
+-- the most records that an archive holds
+abbrev pub recordLimit : ℕ
+recordLimit = 512
+
+-- the most bytes of a title
+abbrev pub titleLimit : ℕ
+titleLimit = 40
 
 -- a record has room for its number, and two bytes hold the places of 512 of them with titles
 abbrev pub Sized : ℕ → Type 0
@@ -48,6 +57,10 @@ unfoldable pub printables : List ℕ → Bool
 printables [] = true
 printables (b ∷ bs) = printable b && printables bs
 
+-- a title that a record may be filed with
+abbrev pub titleFits : List ℕ → Bool
+titleFits t = leb (length t) titleLimit && printables t
+
 unfoldable pub titled : List Filed → Bool
 titled [] = true
 titled (f ∷ fs) = printables (f .title) && titled fs
@@ -76,11 +89,11 @@ unfoldable pub filedFrom : ℕ → ℕ → List ℕ → ℕ → List Filed
 filedFrom size zero l at = []
 filedFrom size (suc k) l at = filedAt size l at ∷ filedFrom size k l (nextAt size l at)
 
--- so many records run from a place to the trailer t, as the places from q on say, with no title over 40
+-- so many records run from a place to the trailer t, as the places from q on say, with no title over 40 bytes
 unfoldable pub runs : ℕ → ℕ → List ℕ → ℕ → ℕ → ℕ → Bool
 runs size zero l t at q = eqb at t
 runs size (suc k) l t at q =
-    (eqb (word2 l q) at && (leb (getD l (at + size) 0) 40 && leb (nextAt size l at) t)) && runs size k l t (nextAt size l at) (q + 2)
+    (eqb (word2 l q) at && (leb (getD l (at + size) 0) titleLimit && leb (nextAt size l at) t)) && runs size k l t (nextAt size l at) (q + 2)
 
 -- each test over all records before the next test
 unfoldable pub decodeBody : ℕ → List ℕ → ℕ → ℕ → Or (List Filed)
@@ -103,7 +116,7 @@ marked e l = eqb (getD l (length l - 2) 0) (e .first) && eqb (getD l (length l -
 unfoldable pub decode : Edition → List ℕ → Or (List Filed)
 decode e l =
     need 1 (leb 6 (length l) && marked e l)
-    (need 2 (leb (countAt l) 512 && eqb (trailerAt l + 2 * countAt l + 6) (length l))
+    (need 2 (leb (countAt l) recordLimit && eqb (trailerAt l + 2 * countAt l + 6) (length l))
     (decodeBody (e .size) l (countAt l) (trailerAt l)))
 
 -- ---- the calls
@@ -143,10 +156,10 @@ single b t = record { bytes = b; title = t } ∷ []
 unfoldable pub addTo : Edition → List ℕ → List ℕ → ℕ → List Filed → Or (List ℕ)
 addTo e b t room fs =
     need 6 (eqb (length b) (e .size))
-    (need 4 (leb (length t) 40 && printables t)
+    (need 4 (titleFits t)
     (need 5 (ltb (lastNumber 0 fs) (word4 b 0))
     (need 17 (leb (length (encode e (fs ++ single b t))) room)
-    (need 18 (ltb (length fs) 512)
+    (need 18 (ltb (length fs) recordLimit)
     (ok (encode e (fs ++ single b t)))))))
 
 unfoldable pub addOf : Edition → List ℕ → List ℕ → List ℕ → ℕ → Or (List ℕ)
@@ -158,9 +171,9 @@ abbrev pub answerOf : Or ℕ → Answer
 answerOf (refused n) = Refused n
 answerOf (ok n) = Is n
 
+-- adding answers the length of what it wrote
 abbrev pub newLength : Or (List ℕ) → Answer
-newLength (refused n) = Refused n
-newLength (ok new) = Is (length new)
+newLength x = answerOf (andThen x (λ new. ok (length new)))
 
 -- a refusal writes nothing; bytes beyond the new archive stay
 abbrev pub overwrite : Or (List ℕ) → List ℕ → List ℕ
@@ -170,4 +183,4 @@ overwrite (ok new) out = new ++ drop (length new) out
 -- ---- the first edition: records of 68 bytes, mark "DR"
 
 abbrev pub segments : Edition
-segments = record { size = 68; first = 68; second = 82 }
+segments = record { size = layout.size; first = 68; second = 82 }

@@ -7,10 +7,9 @@ use mathlib.Core.List.{List, [], _∷_, _++_, append-assoc, append-nil}
 use lib.Dec.{ltb}
 use lib.ListN.{length, length-append}
 use borrow.Author.Tests.{ltb-true, le-leb, lt-ltb, eq-eqb}
-use Rattle.refusal.specs.Refusal.{Or, ok, need, andThen}
+use Rattle.refusal.specs.Refusal.{Or, ok, need, andThen, both}
 use Rattle.archive_format.specs.declared.Edition.{Edition}
-use Rattle.archive_format.specs.Archive.{Filed, numberOf, body, encode, printables, titled, rising, lastNumber, decode, single, addTo, addOf, places, segments}
-use Rattle.archive_format.specs.Reading.{both}
+use Rattle.archive_format.specs.Archive.{recordLimit, Filed, numberOf, body, encode, printables, titled, rising, lastNumber, decode, single, addTo, addOf, places, segments}
 use Rattle.archive_format.specs.Words.{Bytes}
 use Rattle.archive_format.specs.Decoded.{Shaped, Fit, decoded-is-fit, decoded-is-encoding}
 use Rattle.archive_format.specs.Encoded.{length-encode, encoding-reads}
@@ -44,7 +43,7 @@ adds e room fs b t f w h =
     rw (encoding-reads e fs f, eq-eqb _ _ (w .sized), le-leb _ _ (w .short), w .clean, lt-ltb _ _ (w .above), le-leb _ _ h, lt-ltb _ _ (w .free))
 
 add-rest : (e : Edition) (room : ℕ) (fs gs : List Filed) → length (encode e (fs ++ gs)) ≤ room → Fit e fs → Shaped (e .size) gs → titled gs ≡ true → rising (lastNumber 0 fs) gs ≡ true
-    → length fs + length gs ≤ 512 → addAll e room (encode e fs) gs ≡ ok (encode e (fs ++ gs))
+    → length fs + length gs ≤ recordLimit → addAll e room (encode e fs) gs ≡ ok (encode e (fs ++ gs))
 unfolding addAll titled rising
 add-rest e room fs [] h f s t r k = rw (append-nil fs)
 add-rest e room fs (g ∷ gs) h f s t r k =
@@ -54,7 +53,7 @@ add-rest e room fs (g ∷ gs) h f s t r k =
     record { sized = s .0; short = s .1; clean = t2 .0; above = ltb-true _ _ (r2 .0); free = omega arith } in
     let on : (fs ++ (g ∷ [])) ++ gs ≡ fs ++ (g ∷ gs) = simp append-assoc in
     let h2 : length (encode e ((fs ++ (g ∷ [])) ++ gs)) ≤ room = rw on h in
-    let k2 : length (fs ++ (g ∷ [])) + length gs ≤ 512 = simp length-append (omega arith) in
+    let k2 : length (fs ++ (g ∷ [])) + length gs ≤ recordLimit = simp length-append (omega arith) in
     rw (adds e room fs (g .bytes) (g .title) f w (omega (arith, longer e (fs ++ (g ∷ [])) gs)))
     (add-rest e room (fs ++ (g ∷ [])) gs h2 (fit-more e fs (g .bytes) (g .title) f w) (s .2) (t2 .1) (rw (last-snoc 0 fs g) (r2 .1)) k2
     ∙ ap (λ (z : List Filed). ok (encode e z)) on)

@@ -10,21 +10,21 @@ use borrow.Author.Tests.{eqb-true}
 use Rattle.refusal.specs.Refusal.{ok}
 use Rattle.octets.specs.Octets.{word2, bytes2}
 use Rattle.archive_format.specs.declared.Edition.{Edition}
-use Rattle.archive_format.specs.Archive.{Filed, body, places, encode, titled, rising, nextAt, filedFrom, runs, countAt, trailerAt, decode}
+use Rattle.archive_format.specs.Archive.{recordLimit, titleLimit, Filed, body, places, encode, titled, rising, nextAt, filedFrom, runs, countAt, trailerAt, decode}
 use Rattle.archive_format.specs.Reading.{title-length, bytes-length, record-split, Ran, ran, Reads, reads}
 use Rattle.archive_format.specs.Words.{Bytes, word-split}
 
 -- records of the size, with titles of 40 bytes at most
 abbrev pub Shaped : ℕ → List Filed → Type 0
 Shaped size [] = Unit {0}
-Shaped size (f ∷ fs) = (length (f .bytes) ≡ size) × (length (f .title) ≤ 40) × Shaped size fs
+Shaped size (f ∷ fs) = (length (f .bytes) ≡ size) × (length (f .title) ≤ titleLimit) × Shaped size fs
 
 -- a list that an archive of the edition can hold
 pub record Fit (e : Edition) (fs : List Filed) : Type 0 where
   pub shaped : Shaped (e .size) fs
   pub titles : titled fs ≡ true
   pub risen : rising 0 fs ≡ true
-  pub many : length fs ≤ 512
+  pub many : length fs ≤ recordLimit
 
 -- ---- an archive that runs is made of its records
 
@@ -65,8 +65,6 @@ pub decoded-is-encoding : (e : Edition) (l : List ℕ) (fs : List Filed) → Byt
 unfolding encode
 decoded-is-encoding e l fs hb r =
     let m : Reads e l fs = reads e l fs r in
-    let t : ℕ = trailerAt l in
-    let k : ℕ = countAt l in
     let w : trailerAt l ≤ length l = omega (arith, m .sized) in
     let w2 : trailerAt l + 2 * countAt l ≤ length l = omega (arith, m .sized) in
     let six : trailerAt l + 2 * countAt l ≡ length l - 6 = omega (arith, m .sized) in

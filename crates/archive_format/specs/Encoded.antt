@@ -11,7 +11,7 @@ use borrow.Author.Tests.{le-leb, eq-eqb}
 use Rattle.refusal.specs.Refusal.{ok, need}
 use Rattle.octets.specs.Octets.{word2, bytes2}
 use Rattle.archive_format.specs.declared.Edition.{Edition}
-use Rattle.archive_format.specs.Archive.{Filed, body, places, encode, nextAt, filedAt, filedFrom, runs, decodeBody, countAt, trailerAt, decode}
+use Rattle.archive_format.specs.Archive.{titleLimit, Filed, body, places, encode, nextAt, filedAt, filedFrom, runs, decodeBody, countAt, trailerAt, decode}
 use Rattle.archive_format.specs.Words.{word-of}
 use Rattle.archive_format.specs.Decoded.{Shaped, Fit}
 
@@ -54,7 +54,7 @@ encoded-runs size (f ∷ fs) l t at q x y s hb hp ht =
     sym (drop-drop 2 q l) ∙ ap (λ (z : List ℕ). drop 2 z) hp ∙ ap (λ (z : ℕ). places size (at + size + 1 + z) fs ++ y) (sym n) in
     let ih : Runs size fs l t (nextAt size l at) (q + 2) =
     encoded-runs size fs l t (nextAt size l at) (q + 2) x y (s .2) (laid-next size f l at (body fs ++ x) (s .0) h) q2 next in
-    let short : getD l (at + size) 0 ≤ 40 = omega (arith, s .1) in
+    let short : getD l (at + size) 0 ≤ titleLimit = omega (arith, s .1) in
     let fits : nextAt size l at ≤ t = omega arith in
     record {
       run = rw (eq-eqb _ _ p, le-leb _ _ short, le-leb _ _ fits) (ih .run);

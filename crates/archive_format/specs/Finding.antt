@@ -7,11 +7,11 @@ use mathlib.Core.List.{List, [], _∷_, _++_}
 use lib.Dec.{eqb, ltb}
 use lib.ListN.{length, length-append}
 use borrow.Author.Tests.{eqb-true, ne-eqb, ltb-true}
-use Rattle.refusal.specs.Refusal.{Or, refused, ok, andThen, pick}
+use Rattle.refusal.specs.Refusal.{Or, refused, ok, andThen, pick, both}
 use Rattle.octets.specs.Octets.{word2}
 use Rattle.archive_format.specs.declared.Edition.{Edition}
 use Rattle.archive_format.specs.Archive.{Filed, numberOf, body, rising, lastNumber, nextAt, filedAt, filedFrom, runs, countAt, trailerAt, decode, placeIn, findIn, findOf, titleOf}
-use Rattle.archive_format.specs.Reading.{both, title-length, Ran, ran, Reads, reads}
+use Rattle.archive_format.specs.Reading.{title-length, Ran, ran, Reads, reads}
 use Rattle.archive_format.specs.Decoded.{Shaped}
 
 -- the record with a number, in a list
@@ -80,7 +80,7 @@ unfolding titleOf
 title-is e l n p f = rw f
 
 -- a record found has the number looked for
-pub lookup-number : (fs : List Filed) (n : ℕ) (g : Filed) → lookup fs n ≡ ok g → numberOf g ≡ n
+lookup-number : (fs : List Filed) (n : ℕ) (g : Filed) → lookup fs n ≡ ok g → numberOf g ≡ n
 unfolding lookup
 lookup-number [] n g h = absurd (let z : _≡_ {A = ℕ} 0 1 = cc in omega arith)
 lookup-number (f ∷ fs) n g h = go (eqb (numberOf f) n) refl h (lookup-number fs n g)
@@ -88,6 +88,9 @@ lookup-number (f ∷ fs) n g h = go (eqb (numberOf f) n) refl h (lookup-number f
     go : (b : Bool) → eqb (numberOf f) n ≡ b → pick b (ok f) (lookup fs n) ≡ ok g → (lookup fs n ≡ ok g → numberOf g ≡ n) → numberOf g ≡ n
     go true e h ih = let z : f ≡ g = cc in rw (← z) (eqb-true _ _ e)
     go false e h ih = ih h
+
+pub found-number : (e : Edition) (l : List ℕ) (fs : List Filed) (n p : ℕ) → decode e l ≡ ok fs → findOf e l n ≡ ok p → numberOf (filedAt (e .size) l p) ≡ n
+found-number e l fs n p r f = lookup-number fs n _ (find-is e l fs n p r f)
 
 -- ---- a list with more records after it
 

@@ -4,20 +4,16 @@ use native.Mathlib.Nat.{add-zero}
 use native.Mathlib.Numerals.{add-one}
 use native.Mathlib.Omega.{arith}
 use mathlib.Core.Path.{_≡_, refl, sym, ap, _∙_}
-use mathlib.Core.Bool.{Bool, true, false, _&&_, false≢true}
+use mathlib.Core.Bool.{true}
 use mathlib.Core.List.{List, _∷_, _++_}
 use lib.Dec.{leb, eqb}
 use lib.ListN.{length, take, drop, getD, length-take, length-drop, length-append, take-append-drop}
 use lib.Seq.{drop-cons, drop-drop, getD-take, getD-drop}
 use borrow.Author.Tests.{leb-true, eqb-true}
-use Rattle.refusal.specs.Refusal.{ok, need-passed, need-rest}
+use Rattle.refusal.specs.Refusal.{ok, need-passed, need-rest, both}
 use Rattle.octets.specs.Octets.{word2, word4}
 use Rattle.archive_format.specs.declared.Edition.{Edition}
-use Rattle.archive_format.specs.Archive.{Filed, numberOf, body, titled, rising, nextAt, filedAt, filedFrom, runs, decodeBody, countAt, trailerAt, marked, decode}
-
-pub both : (a b : Bool) → (a && b) ≡ true → (a ≡ true) × (b ≡ true)
-both true b e = (refl, e)
-both false b e = absurd (false≢true e)
+use Rattle.archive_format.specs.Archive.{recordLimit, titleLimit, Filed, numberOf, body, titled, rising, nextAt, filedAt, filedFrom, runs, decodeBody, countAt, trailerAt, marked, decode}
 
 -- ---- one record
 
@@ -51,7 +47,7 @@ module _ (size : ℕ) (l : List ℕ) (at : ℕ) (h : nextAt size l at ≤ length
 
 pub record Ran (size k : ℕ) (l : List ℕ) (t at q : ℕ) : Type 0 where
   pub placed : word2 l q ≡ at
-  pub short : getD l (at + size) 0 ≤ 40
+  pub short : getD l (at + size) 0 ≤ titleLimit
   pub within : nextAt size l at ≤ t
   pub on : runs size k l t (nextAt size l at) (q + 2) ≡ true
 
@@ -85,7 +81,7 @@ pub record Reads (e : Edition) (l : List ℕ) (fs : List Filed) : Type 0 where
   pub six : 6 ≤ length l
   pub mark : getD l (length l - 2) 0 ≡ e .first
   pub mark′ : getD l (length l - 1) 0 ≡ e .second
-  pub many : countAt l ≤ 512
+  pub many : countAt l ≤ recordLimit
   pub sized : trailerAt l + 2 * countAt l + 6 ≡ length l
   pub run : runs (e .size) (countAt l) l (trailerAt l) 0 (trailerAt l) ≡ true
   pub held : filedFrom (e .size) (countAt l) l 0 ≡ fs
@@ -103,7 +99,7 @@ reads e l fs r =
     let r5 : _ = need-rest _ _ _ _ r4 in
     let a1 : (leb 6 (length l) ≡ true) × (marked e l ≡ true) = both _ _ (need-passed _ _ _ _ r) in
     let a2 : (eqb (getD l (length l - 2) 0) (e .first) ≡ true) × (eqb (getD l (length l - 1) 0) (e .second) ≡ true) = both _ _ (a1 .1) in
-    let b1 : (leb (countAt l) 512 ≡ true) × (eqb (trailerAt l + 2 * countAt l + 6) (length l) ≡ true) = both _ _ (need-passed _ _ _ _ r2) in
+    let b1 : (leb (countAt l) recordLimit ≡ true) × (eqb (trailerAt l + 2 * countAt l + 6) (length l) ≡ true) = both _ _ (need-passed _ _ _ _ r2) in
     let run : runs (e .size) (countAt l) l (trailerAt l) 0 (trailerAt l) ≡ true = need-passed _ _ _ _ r3 in
     let sized : trailerAt l + 2 * countAt l + 6 ≡ length l = eqb-true _ _ (b1 .1) in
     let held : filedFrom (e .size) (countAt l) l 0 ≡ fs = cc (need-rest _ _ _ _ r5) in

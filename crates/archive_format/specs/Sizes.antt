@@ -9,23 +9,24 @@ use lib.ListN.{length, length-append, replicate}
 use borrow.Author.Tests.{lt-ltb}
 use Rattle.refusal.specs.Refusal.{ok}
 use Rattle.octets.specs.Octets.{word4, bytes2}
+use Rattle.segment.specs.Layout as layout
 use Rattle.archive_format.specs.declared.Edition.{Edition}
-use Rattle.archive_format.specs.Archive.{Filed, body, encode, printables, titled, rising, decode, placeIn, placeOf, segments}
+use Rattle.archive_format.specs.Archive.{recordLimit, titleLimit, Filed, body, encode, printables, titled, rising, decode, placeIn, placeOf, segments}
 use Rattle.archive_format.specs.Words.{Bytes}
 use Rattle.archive_format.specs.Decoded.{Shaped, Fit, decoded-is-fit, decoded-is-encoding}
 use Rattle.archive_format.specs.Encoded.{length-encode, encoding-reads}
 
-pub body-bound : (size : ℕ) (fs : List Filed) → Shaped size fs → length (body fs) ≤ length fs * (size + 41)
+pub body-bound : (size : ℕ) (fs : List Filed) → Shaped size fs → length (body fs) ≤ length fs * (size + 1 + titleLimit)
 unfolding body
 body-bound size [] h = omega arith
 body-bound size (f ∷ fs) h = simp length-append (omega (arith, h .0, h .1, body-bound size fs (h .2)))
 
 -- the most bytes that an archive of an edition has
 abbrev pub most : Edition → ℕ
-most e = 512 * (e .size + 43) + 6
+most e = recordLimit * (e .size + 1 + titleLimit + 2) + 6
 
 pub length-bound : (e : Edition) (fs : List Filed) → Fit e fs → length (encode e fs) ≤ most e
-length-bound e fs f = omega (arith, length-encode e fs, body-bound (e .size) fs (f .shaped), mul-le-mul-right (e .size + 41) (f .many))
+length-bound e fs f = omega (arith, length-encode e fs, body-bound (e .size) fs (f .shaped), mul-le-mul-right (e .size + 1 + titleLimit) (f .many))
 
 place-bound : (size p : ℕ) (fs : List Filed) (i x : ℕ) → Shaped size fs → placeIn size p fs i ≡ ok x → x ≤ p + length (body fs)
 unfolding placeIn body
@@ -37,20 +38,20 @@ place-bound size p (f ∷ fs) (suc i) x s h =
 -- the first edition: 56838 bytes at most, and each number of the trailer below 65536
 pub record Small (l : List ℕ) (fs : List Filed) : Type 0 where
   pub whole : length l ≤ 56838
-  pub count : length fs ≤ 512
+  pub count : length fs ≤ recordLimit
   pub trailer : length (body fs) ≤ 55808
   pub place : (i p : ℕ) → placeOf segments l i ≡ ok p → p ≤ 55808
 
 pub encoding-is-small : (fs : List Filed) → Fit segments fs → Small (encode segments fs) fs
 unfolding placeOf
 encoding-is-small fs f =
-    let k : length fs ≤ 512 = f .many in
-    let b : length (body fs) ≤ length fs * 109 = body-bound 68 fs (f .shaped) in
+    let k : length fs ≤ recordLimit = f .many in
+    let b : length (body fs) ≤ length fs * 109 = body-bound layout.size fs (f .shaped) in
     record {
       whole = length-bound segments fs f;
       count = k;
       trailer = omega arith;
-      place = λ i p h. omega (arith, place-bound 68 0 fs i p (f .shaped) (rw (encoding-reads segments fs f) at h));
+      place = λ i p h. omega (arith, place-bound layout.size 0 fs i p (f .shaped) (rw (encoding-reads segments fs f) at h));
     }
 
 pub archive-is-small : (l : List ℕ) (fs : List Filed) → Bytes l → decode segments l ≡ ok fs → Small l fs
@@ -60,13 +61,13 @@ archive-is-small l fs hb r = rw (decoded-is-encoding segments l fs hb r) (encodi
 
 unfoldable pub numbered : ℕ → ℕ → List Filed
 numbered zero n = []
-numbered (suc k) n = record { bytes = bytes2 (n + 1) ++ replicate 66 0; title = replicate 40 32 } ∷ numbered k (n + 1)
+numbered (suc k) n = record { bytes = bytes2 (n + 1) ++ replicate 66 0; title = replicate titleLimit 32 } ∷ numbered k (n + 1)
 
 number-is : (n : ℕ) → word4 (bytes2 n ++ replicate 66 0) 0 ≡ n
 unfolding word4
 number-is n = omega (arith, mod-add-div n 256)
 
-numbered-shaped : (k n : ℕ) → Shaped 68 (numbered k n)
+numbered-shaped : (k n : ℕ) → Shaped layout.size (numbered k n)
 unfolding numbered
 numbered-shaped zero n = tt
 numbered-shaped (suc k) n = (refl, omega arith, numbered-shaped k (n + 1))
@@ -93,8 +94,8 @@ unfolding numbered
 numbered-length zero n = refl
 numbered-length (suc k) n = ap suc (numbered-length k (n + 1))
 
-pub longest-fit : Fit segments (numbered 512 0)
-longest-fit = record { shaped = numbered-shaped 512 0; titles = numbered-titled 512 0; risen = numbered-rising 512 0; many = omega (arith, numbered-length 512 0) }
+pub longest-fit : Fit segments (numbered recordLimit 0)
+longest-fit = record { shaped = numbered-shaped recordLimit 0; titles = numbered-titled recordLimit 0; risen = numbered-rising recordLimit 0; many = omega (arith, numbered-length recordLimit 0) }
 
-pub longest-length : length (encode segments (numbered 512 0)) ≡ 56838
-longest-length = omega (arith, length-encode segments (numbered 512 0), numbered-body 512 0, numbered-length 512 0)
+pub longest-length : length (encode segments (numbered recordLimit 0)) ≡ 56838
+longest-length = omega (arith, length-encode segments (numbered recordLimit 0), numbered-body recordLimit 0, numbered-length recordLimit 0)

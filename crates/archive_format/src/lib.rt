@@ -3,6 +3,12 @@ ghost use mathlib.Core.Path.{_≡_};
 ghost use mathlib.Core.List.{[]};
 ghost use Rattle.archive_format.specs.Archive.{encode, segments};
 
+// The most records that an archive holds.
+pub const RECORD_LIMIT: usize = 512;
+
+// The most bytes of a title.
+pub const TITLE_LIMIT: usize = 40;
+
 // The size of a record and the two bytes that mark an archive of them.
 pub struct Edition {
     pub size: usize,
@@ -12,7 +18,7 @@ pub struct Edition {
 
 // The first edition: records of 68 bytes, mark "DR".
 pub const SEGMENTS: Edition = Edition {
-    size: 68,
+    size: segment::SIZE,
     first: 68,
     second: 82,
 };
@@ -24,10 +30,8 @@ pub enum Answer {
 }
 
 // The archive with no records.
-pub const EMPTY: [u8; 6] = [0, 0, 0, 0, 68, 82];
-
 pub fn empty() -> [u8; 6]
     ensures { λ r. ⌜ r ≡ encode segments [] ⌝ }
 {
-    EMPTY
+    [0, 0, 0, 0, SEGMENTS.first, SEGMENTS.second]
 }

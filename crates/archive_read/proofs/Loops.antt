@@ -10,12 +10,12 @@ use lib.Dec.{leb, ltb, eqb}
 use lib.ListN.{length, getD, take, drop}
 use lib.Seq.{drop-cons, drop-length}
 use borrow.Author.Tests.{leb-true, le-leb, lt-leb, eq-eqb, ne-eqb}
-use Rattle.refusal.specs.Refusal.{ok, need, pick}
+use Rattle.refusal.specs.Refusal.{ok, need, pick, both}
 use Rattle.octets.specs.Octets.{word2, word4}
 use Rattle.archive_format.specs.declared.Edition.{Edition}
 use Rattle.archive_format.specs.declared.Answer.the-variants.{Is, Refused}
-use Rattle.archive_format.specs.Archive.{answerOf, findIn, printable, printables, numberOf, body, titled, rising, lastNumber, nextAt, filedAt, filedFrom, runs, decodeBody, countAt, trailerAt, decode}
-use Rattle.archive_format.specs.Reading.{both, number-at, filed-length, reach, title-length, Ran, ran}
+use Rattle.archive_format.specs.Archive.{recordLimit, titleLimit, answerOf, findIn, printable, printables, numberOf, body, titled, rising, lastNumber, nextAt, filedAt, filedFrom, runs, decodeBody, countAt, trailerAt, decode}
+use Rattle.archive_format.specs.Reading.{number-at, filed-length, reach, title-length, Ran, ran}
 use Rattle.archive_read.specs.declared.opening.Opened.{Opened}
 use Rattle.archive_read.specs.declared.opening.Opened.the-variants.{Valid, Invalid}
 use Rattle.archive_read.specs.Opening.{openedOf, concluded, nextWithin}
@@ -54,10 +54,10 @@ pub walk-start : (size : ℕ) (s : List ℕ) (count t : ℕ) → t + 2 * count +
 walk-start size s count t h = record { run = refl; title = refl; rise = refl; lasts = refl; room = h; within = omega arith }
 
 abbrev Fits : ℕ → List ℕ → ℕ → ℕ → Bool
-Fits size s t at = leb (getD s (at + size) 0) 40 && leb (nextAt size s at) t
+Fits size s t at = leb (getD s (at + size) 0) titleLimit && leb (nextAt size s at) t
 
 module _ (size : ℕ) (s : List ℕ) (t at : ℕ) where
-  pub next-long : 40 < getD s (at + size) 0 → 0 ≡ nextWithin size s t at
+  pub next-long : titleLimit < getD s (at + size) 0 → 0 ≡ nextWithin size s t at
   unfolding nextWithin
   next-long f = sym (rw (lt-leb _ _ f))
 
@@ -65,14 +65,14 @@ module _ (size : ℕ) (s : List ℕ) (t at : ℕ) where
   unfolding nextWithin
   next-beyond f = sym (simp (lt-leb _ _ f, and-false))
 
-  pub next-is : {n : ℕ} → n ≡ getD s (at + size) 0 → n ≤ 40 → at + size + 1 + n ≤ t → at + size + 1 + n ≡ nextWithin size s t at
+  pub next-is : {n : ℕ} → n ≡ getD s (at + size) 0 → n ≤ titleLimit → at + size + 1 + n ≤ t → at + size + 1 + n ≡ nextWithin size s t at
   unfolding nextWithin
   next-is e short fits = rw e (sym (rw (le-leb _ _ (rw e at short), le-leb _ _ (rw e at fits))))
 
 -- where a next place was answered
 pub record Follows (size : ℕ) (s : List ℕ) (t at next : ℕ) : Type 0 where
   pub same : next ≡ nextAt size s at
-  pub short : getD s (at + size) 0 ≤ 40
+  pub short : getD s (at + size) 0 ≤ titleLimit
   pub within : nextAt size s at ≤ t
 
 pub follows : (size : ℕ) (s : List ℕ) (t at : ℕ) {next : ℕ} → next ≡ nextWithin size s t at → (next ≡ 0 → ⊥) → Follows size s t at next
@@ -80,7 +80,7 @@ unfolding nextWithin
 follows size s t at {next} e f = go (Fits size s t at) refl e
   where
     go : (b : Bool) → Fits size s t at ≡ b → next ≡ pick b (nextAt size s at) 0 → Follows size s t at next
-    go true b e = let a : (leb (getD s (at + size) 0) 40 ≡ true) × (leb (nextAt size s at) t ≡ true) = both _ _ b in record { same = e; short = leb-true _ _ (a .0); within = leb-true _ _ (a .1) }
+    go true b e = let a : (leb (getD s (at + size) 0) titleLimit ≡ true) × (leb (nextAt size s at) t ≡ true) = both _ _ b in record { same = e; short = leb-true _ _ (a .0); within = leb-true _ _ (a .1) }
     go false b e = absurd (f e)
 
 unfit : (size : ℕ) (s : List ℕ) (t at : ℕ) {next : ℕ} → next ≡ nextWithin size s t at → next ≡ 0 → Fits size s t at ≡ false
@@ -175,15 +175,15 @@ module _ (e : Edition) (s : List ℕ) where
       end-second f = sym (rw (le-leb _ _ h, eq-eqb _ _ m, ne-eqb _ _ f))
 
       module _ (m′ : getD s (length s - 1) 0 ≡ e .second) {count t : ℕ} (ec : count ≡ countAt s) (et : t ≡ trailerAt s) where
-        pub end-many : 512 < count → Invalid 2 ≡ openedOf (decode e s)
+        pub end-many : recordLimit < count → Invalid 2 ≡ openedOf (decode e s)
         unfolding need decode
         end-many f = sym (rw (le-leb _ _ h, eq-eqb _ _ m, eq-eqb _ _ m′, ← ec, lt-leb _ _ f))
 
-        pub end-off : count ≤ 512 → (t + 2 * count + 6 ≡ length s → ⊥) → Invalid 2 ≡ openedOf (decode e s)
+        pub end-off : count ≤ recordLimit → (t + 2 * count + 6 ≡ length s → ⊥) → Invalid 2 ≡ openedOf (decode e s)
         unfolding need decode
         end-off c f = sym (rw (le-leb _ _ h, eq-eqb _ _ m, eq-eqb _ _ m′, ← ec, ← et, le-leb _ _ c, ne-eqb _ _ f))
 
-        pub end-on : {r : Opened} → count ≤ 512 → t + 2 * count + 6 ≡ length s → r ≡ openedOf (decodeBody (e .size) s count t) → r ≡ openedOf (decode e s)
+        pub end-on : {r : Opened} → count ≤ recordLimit → t + 2 * count + 6 ≡ length s → r ≡ openedOf (decodeBody (e .size) s count t) → r ≡ openedOf (decode e s)
         unfolding need decode
         end-on c f w = w ∙ sym (rw (le-leb _ _ h, eq-eqb _ _ m, eq-eqb _ _ m′, ← ec, ← et, le-leb _ _ c, eq-eqb _ _ f))
 

@@ -8,7 +8,7 @@ use lib.Dec.{leb}
 use lib.ListN.{length, getD}
 use Rattle.refusal.specs.Refusal.{Or, refused, ok, pick}
 use Rattle.archive_format.specs.declared.Edition.{Edition}
-use Rattle.archive_format.specs.Archive.{Filed, body, lastNumber, nextAt, filedFrom, runs, countAt, trailerAt, decode}
+use Rattle.archive_format.specs.Archive.{titleLimit, Filed, body, lastNumber, nextAt, filedFrom, runs, countAt, trailerAt, decode}
 use Rattle.archive_format.specs.Reading.{Reads, reads}
 use Rattle.archive_read.specs.declared.opening.Opened.{Opened}
 use Rattle.archive_read.specs.declared.opening.Opened.the-variants.{Valid, Invalid}
@@ -22,9 +22,9 @@ openedOf (ok fs) = Valid (length fs) (length (body fs)) (lastNumber 0 fs)
 abbrev pub concluded : Bool → Bool → Bool → ℕ → ℕ → ℕ → Opened
 concluded run clean risen count t last = pick run (pick clean (pick risen (Valid count t last) (Invalid 5)) (Invalid 4)) (Invalid 3)
 
--- the place after a record that ends before the trailer, with a title of at most 40 bytes; else 0
+-- the place after a record that ends before the trailer, with a title that is not too long; else 0
 unfoldable pub nextWithin : ℕ → List ℕ → ℕ → ℕ → ℕ
-nextWithin size l t at = pick (leb (getD l (at + size) 0) 40 && leb (nextAt size l at) t) (nextAt size l at) 0
+nextWithin size l t at = pick (leb (getD l (at + size) 0) titleLimit && leb (nextAt size l at) t) (nextAt size l at) 0
 
 -- ---- refused
 

@@ -2,11 +2,13 @@
 // A lower layer's functions, which the crates above share; `open` asks of its caller only that the edition's size is `Sized`.
 ghost use mathlib.Core.Path.{_≡_};
 ghost use Prim.Native.Nat.{_+_, _*_, _≤_, _<_};
-ghost use lib.ListN.{length, getD};
+ghost use lib.ListN.{length};
 ghost use Rattle.octets.specs.Octets.{word2};
 ghost use Rattle.archive_format.specs.Archive.{Sized, printables, decodeBody, decode};
 ghost use Rattle.archive_read.specs.Opening.{openedOf, concluded, nextWithin};
 use archive_format::Edition;
+use archive_format::RECORD_LIMIT;
+use archive_format::TITLE_LIMIT;
 
 // An archive that was read: its count, its trailer's place and its last number; or the number of a refusal.
 pub enum Opened {
@@ -45,7 +47,7 @@ pub fn printable(s: &[u8]) -> bool
     good
 }
 
-// The place after the record at a place; 0 where it passes the trailer or its title is over 40 bytes.
+// The place after the record at a place; 0 where it passes the trailer or its title is too long.
 fn next_at(size: usize, s: &[u8], t: usize, at: usize) -> usize
     requires { ⌜ Sized size × (t < 65536) × (t ≤ length (now s)) × (at ≤ t) ⌝ }
     ensures { λ r. ⌜ r ≡ nextWithin size (now (s .entry)) t at ⌝ }
@@ -54,7 +56,7 @@ fn next_at(size: usize, s: &[u8], t: usize, at: usize) -> usize
         return 0;
     }
     let n = long(s[at + size]);
-    if 40 < n {
+    if TITLE_LIMIT < n {
         return 0;
     }
     let next = at + size + 1 + n;
@@ -132,7 +134,7 @@ pub fn open(e: Edition, s: &[u8]) -> Opened
     }
     let count = place_at(s, n - 6);
     let t = place_at(s, n - 4);
-    if 512 < count {
+    if RECORD_LIMIT < count {
         return Opened::Invalid(2);
     }
     if t + 2 * count + 6 != n {

@@ -36,13 +36,13 @@ fn tell(label: &[u8], answer: Answer) {
 
 fn file(record: &[u8]) {
     let archive = archive_format::empty();
-    let mut bigger = [0u8; 87];
-    tell(
-        b"new length ",
-        archive_add::add(&archive, record, b"Elm Street", &mut bigger),
-    );
-    tell(b"place of record 1: ", archive_read::find(&bigger, 1));
-    io::write_all(STDOUT_FILENO, archive_read::title(&bigger, 1));
+    let mut bigger = [0u8; 128];
+    let added = archive_add::add(&archive, record, b"Elm Street", &mut bigger);
+    let found = archive_read::find(&bigger[0..87], 1);
+    let title = archive_read::title(&bigger[0..87], 1);
+    tell(b"new length ", added);
+    tell(b"place of record 1: ", found);
+    io::write_all(STDOUT_FILENO, title);
     io::write_all(STDOUT_FILENO, b"\n");
 }
 

@@ -9,7 +9,7 @@ use borrow.Author.Tests.{lt-ltb, le-ltb}
 use Rattle.octets.specs.Octets.{word2, word4}
 use Rattle.text.specs.Text.{cursor, put, Wrote}
 use Rattle.text.specs.Appending.{put-append, put-nil}
-use Rattle.segment.specs.Layout.{cycleAt}
+use Rattle.segment.specs.Layout.{size, cycleAt}
 use Rattle.segment.specs.Segment.{segmentOf}
 use Rattle.propagation.specs.Propagation.{Profiles}
 use Rattle.propagation.specs.Steps.{Room}
@@ -20,7 +20,7 @@ use Rattle.archive_format.specs.Reading.{Ran, ran}
 use Rattle.archive_read.specs.declared.opening.Opened.the-variants.{Invalid, Valid}
 use Rattle.archive_read.specs.Opening.{openedOf, invalid, Held, held, held-run, held-fits, held-filed}
 use Rattle.report_lines.specs.Lines.{archiveRefusedLine, recordText}
-use Rattle.report.specs.Report.{longest, segmentText, recordsText, archiveText, inputText}
+use Rattle.report.specs.Report.{inputLimit, longest, segmentText, recordsText, archiveText, inputText}
 use Rattle.report.specs.Running.{Runs}
 use Rattle.report.specs.Working.{same-answer, longest-room}
 
@@ -41,26 +41,26 @@ pub record Reporting (l : List ℕ) (count : ℕ) (b₀ : List ℕ) (at : ℕ) (
   pub trailer : ℕ
   pub mark : ℕ
   pub within : trailer ≤ length l
-  pub run : runs 68 left l trailer place mark ≡ true
-  pub same : put (cursor b₀ at) (recordsText (filedFrom 68 count l 0)) ≡ put (cursor b p) (recordsText (filedFrom 68 left l place))
+  pub run : runs size left l trailer place mark ≡ true
+  pub same : put (cursor b₀ at) (recordsText (filedFrom size count l 0)) ≡ put (cursor b p) (recordsText (filedFrom size left l place))
 
 pub report-start : {l : List ℕ} {count : ℕ} → Runs count l → (b : List ℕ) (at : ℕ) → Reporting l count b at b count 0 at
 report-start r b at = record { long = refl; trailer = r .trailer; mark = r .trailer; within = r .within; run = r .run; same = refl }
 
 module _ {l : List ℕ} {count : ℕ} {b₀ : List ℕ} {at : ℕ} {b : List ℕ} {left place p : ℕ} (r : Reporting l count b₀ at b left place p) where
-  first : (k : ℕ) → left ≡ suc k → Ran 68 k l (r .trailer) place (r .mark)
+  first : (k : ℕ) → left ≡ suc k → Ran size k l (r .trailer) place (r .mark)
   first k e = ran (rw e at (r .run))
 
-  pub report-fits : 0 < left → nextAt 68 l place ≤ length l
+  pub report-fits : 0 < left → nextAt size l place ≤ length l
   report-fits h = omega (arith, first (left - 1) (omega arith) .within, r .within)
 
-  turned : (k : ℕ) → left ≡ suc k → {title : ℕ} → title ≡ getD l (place + 68) 0 → {b′ : List ℕ} {p′ : ℕ} → length b′ ≡ length b
-      → Wrote b p (segmentText (take (place + 68 - place) (drop place l))) b′ p′ → Reporting l count b₀ at b′ k (place + 68 + 1 + title) p′
+  turned : (k : ℕ) → left ≡ suc k → {title : ℕ} → title ≡ getD l (place + size) 0 → {b′ : List ℕ} {p′ : ℕ} → length b′ ≡ length b
+      → Wrote b p (segmentText (take (place + size - place) (drop place l))) b′ p′ → Reporting l count b₀ at b′ k (place + size + 1 + title) p′
   unfolding filedFrom recordsText
   turned k e et {b′} {p′} lb v =
       let f = first k e in
-      let n : place + 68 - place ≡ 68 = omega arith in
-      let w : cursor b′ p′ ≡ put (cursor b p) (segmentText (take 68 (drop place l))) = rw n at (v .is) in
+      let n : place + size - place ≡ size = omega arith in
+      let w : cursor b′ p′ ≡ put (cursor b p) (segmentText (take size (drop place l))) = rw n at (v .is) in
       record {
         long = lb ∙ r .long;
         trailer = r .trailer;
@@ -70,11 +70,11 @@ module _ {l : List ℕ} {count : ℕ} {b₀ : List ℕ} {at : ℕ} {b : List ℕ
         same = r .same ∙ rw (e, put-append, w, et);
       }
 
-  pub report-turn : 0 < left → {title : ℕ} → title ≡ getD l (place + 68) 0 → {b′ : List ℕ} {p′ : ℕ} → length b′ ≡ length b
-      → Wrote b p (segmentText (take (place + 68 - place) (drop place l))) b′ p′ → Reporting l count b₀ at b′ (left - 1) (place + 68 + 1 + title) p′
+  pub report-turn : 0 < left → {title : ℕ} → title ≡ getD l (place + size) 0 → {b′ : List ℕ} {p′ : ℕ} → length b′ ≡ length b
+      → Wrote b p (segmentText (take (place + size - place) (drop place l))) b′ p′ → Reporting l count b₀ at b′ (left - 1) (place + size + 1 + title) p′
   report-turn h et lb v = turned (left - 1) (omega arith) et lb v
 
-  pub report-done : left ≤ 0 → Wrote b₀ at (recordsText (filedFrom 68 count l 0)) b p
+  pub report-done : left ≤ 0 → Wrote b₀ at (recordsText (filedFrom size count l 0)) b p
   unfolding filedFrom recordsText
   report-done h = let e : left ≡ 0 = omega arith in record { is = sym (rw e at (r .same) ∙ put-nil b p) }
 
@@ -91,15 +91,15 @@ module _ (l : List ℕ) {b : List ℕ} {at : ℕ} {b′ : List ℕ} {p : ℕ} wh
   archive-refused k o v = rw (invalid segments l k o) v
 
   pub archive-read : {count t last : ℕ} → openedOf (decode segments l) ≡ Valid count t last
-      → Wrote b at (recordsText (filedFrom 68 count l 0)) b′ p → Wrote b at (archiveText l) b′ p
+      → Wrote b at (recordsText (filedFrom size count l 0)) b′ p → Wrote b at (archiveText l) b′ p
   unfolding archiveText
   archive-read o v = rw (held-filed segments l (held o)) v
 
-  pub input-long : 65536 < length l → Wrote b at (archiveRefusedLine 2) b′ p → Wrote b at (inputText l) b′ p
+  pub input-long : inputLimit < length l → Wrote b at (archiveRefusedLine 2) b′ p → Wrote b at (inputText l) b′ p
   unfolding inputText
   input-long h v = rw (lt-ltb _ _ h) v
 
-  pub input-short : length l ≤ 65536 → Wrote b at (archiveText l) b′ p → Wrote b at (inputText l) b′ p
+  pub input-short : length l ≤ inputLimit → Wrote b at (archiveText l) b′ p → Wrote b at (inputText l) b′ p
   unfolding inputText
   input-short h v = rw (le-ltb _ _ h) v
 

@@ -33,6 +33,10 @@ readText (ok fs) = recordsText fs
 unfoldable pub archiveText : List ℕ → List ℕ
 archiveText l = readText (decode segments l)
 
--- what the program prints: input over 65536 bytes is refused, whatever it holds
+-- the longest input that is read
+abbrev pub inputLimit : ℕ
+inputLimit = 65536
+
+-- what the program prints: longer input is refused, whatever it holds
 unfoldable pub inputText : List ℕ → List ℕ
-inputText l = pick (ltb 65536 (length l)) (archiveRefusedLine 2) (archiveText l)
+inputText l = pick (ltb inputLimit (length l)) (archiveRefusedLine 2) (archiveText l)

@@ -1,12 +1,13 @@
--- How long the text gets, and that a buffer of 262144 bytes holds all of it.
+-- How long the text gets, and the room that holds all of it.
 use Prim.Native.Nat.{ℕ, _+_, _*_, _≤_}
 use native.Mathlib.Omega.{arith}
 use native.Mathlib.Nat.{mul-le-mul-right}
 use mathlib.Core.Bool.{Bool, true, false}
-use mathlib.Core.Path.{_≡_, refl}
+use mathlib.Core.Path.{_≡_, refl, sym}
 use mathlib.Core.List.{List, [], _∷_, _++_}
 use lib.Dec.{ltb}
-use lib.ListN.{length, drop, length-append}
+use lib.ListN.{length, take, drop, length-append}
+use lib.Seq.{take-at}
 use Rattle.refusal.specs.Refusal.{Or, refused, ok, pick}
 use Rattle.text.specs.Text.{Wrote}
 use Rattle.text.specs.Appending.{wrote-fits, wrote-within}
@@ -14,7 +15,7 @@ use Rattle.archive_format.specs.Archive.{Filed, decode, segments}
 use Rattle.archive_format.specs.Decoded.{decoded-is-fit}
 use Rattle.report_lines.specs.Lines.{archiveRefusedLine}
 use Rattle.report_lines.specs.Lengths.{record-text, archive-refused-line}
-use Rattle.report.specs.Report.{segmentText, recordsText, readText, archiveText, inputText}
+use Rattle.report.specs.Report.{inputLimit, segmentText, recordsText, readText, archiveText, inputText}
 
 segment-text : (bytes : List ℕ) → length (segmentText bytes) ≤ 468
 unfolding segmentText
@@ -37,18 +38,26 @@ archive-text l = go (decode segments l) refl
 
 pub input-text : (l : List ℕ) → length (inputText l) ≤ 239616
 unfolding inputText
-input-text l = go (ltb 65536 (length l))
+input-text l = go (ltb inputLimit (length l))
   where
     go : (b : Bool) → length (pick b (archiveRefusedLine 2) (archiveText l)) ≤ 239616
     go true = omega (arith, archive-refused-line 2)
     go false = archive-text l
 
+-- room for every text
+abbrev pub textRoom : ℕ
+textRoom = 262144
+
 -- nothing is cut: the buffer starts with the whole text, whose length was handed back, and the rest of it stays
-pub report-whole : (l : List ℕ) {b b′ : List ℕ} {n : ℕ} → Wrote b 0 (inputText l) b′ n → 262144 ≤ length b
+pub report-whole : (l : List ℕ) {b b′ : List ℕ} {n : ℕ} → Wrote b 0 (inputText l) b′ n → textRoom ≤ length b
     → (b′ ≡ inputText l ++ drop (length (inputText l)) b) × (n ≡ length (inputText l))
 report-whole l w h =
     let z : 0 + length (inputText l) ≡ length (inputText l) = omega arith in
     rw z at (wrote-fits w (omega (arith, input-text l)))
+
+-- so the part of that length is the text
+pub report-part : (l : List ℕ) {b b′ : List ℕ} {n : ℕ} → Wrote b 0 (inputText l) b′ n → textRoom ≤ length b → take n b′ ≡ inputText l
+report-part l {b} w h = let e = report-whole l w h in rw (e .0) (take-at (inputText l) (drop (length (inputText l)) b) _ (sym (e .1)))
 
 -- whatever the buffer, the length handed back lies within it
 pub report-within : {text b b′ : List ℕ} {n : ℕ} → Wrote b 0 text b′ n → n ≤ length b′

@@ -2,11 +2,13 @@
 ghost use mathlib.Core.Path.{_≡_};
 ghost use lib.ListN.{length};
 ghost use Rattle.text.specs.Text.{Wrote};
+ghost use Rattle.segment.specs.Layout.{size};
 ghost use Rattle.propagation.specs.Propagation.{profiles};
 ghost use Rattle.propagation.specs.Steps.{Room};
 ghost use Rattle.archive_format.specs.Archive.{filedFrom};
 ghost use Rattle.report.specs.Report.{archiveText, inputText, recordsText, segmentText};
 ghost use Rattle.report.specs.Running.{Runs};
+use crate::INPUT_LIMIT;
 use archive_format::SEGMENTS;
 use archive_read::opening::Opened;
 use archive_read::opening::open;
@@ -19,7 +21,7 @@ fn segment_text(
     first: &mut [u32],
     second: &mut [u32],
 ) -> usize
-    requires { ⌜ (length (now bytes) ≡ 68) × Room 240 (profiles (now output) (now first) (now second)) ⌝ }
+    requires { ⌜ (length (now bytes) ≡ size) × Room 240 (profiles (now output) (now first) (now second)) ⌝ }
     ensures { λ r. ⌜ Wrote (now (text .entry)) at (segmentText (now (bytes .entry))) (now (text .exit)) r ⌝ }
 {
     let number = octets::word4_at(bytes, 0);
@@ -39,7 +41,7 @@ fn records_text(
     second: &mut [u32],
 ) -> usize
     requires { ⌜ Runs count (now archive) × Room 240 (profiles (now output) (now first) (now second)) ⌝ }
-    ensures { λ r. ⌜ Wrote (now (text .entry)) at (recordsText (filedFrom 68 count (now (archive .entry)) 0)) (now (text .exit)) r ⌝ }
+    ensures { λ r. ⌜ Wrote (now (text .entry)) at (recordsText (filedFrom size count (now (archive .entry)) 0)) (now (text .exit)) r ⌝ }
 {
     let mut left = count;
     let mut place: usize = 0;
@@ -86,7 +88,7 @@ pub(crate) fn input_text(
     requires { ⌜ Room 240 (profiles (now output) (now first) (now second)) ⌝ }
     ensures { λ r. ⌜ Wrote (now (text .entry)) at (inputText (now (archive .entry))) (now (text .exit)) r ⌝ }
 {
-    if 65536 < archive.len() {
+    if INPUT_LIMIT < archive.len() {
         return report_lines::archive_refused_line(text, at, 2);
     }
     archive_text(text, at, archive, output, first, second)

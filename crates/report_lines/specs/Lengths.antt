@@ -8,7 +8,7 @@ use Rattle.exit_figures.specs.declared.ExitFigures.{ExitFigures}
 use Rattle.working.specs.declared.Outcome.{Outcome}
 use Rattle.working.specs.declared.Outcome.the-variants.{Worked, Refused, Unsettled}
 use Rattle.working.specs.declared.Working.{Working}
-use Rattle.report_lines.specs.Lines.{cardLabel, cycleLabel, shiftLabel, roundsLabel, exitLabel, greenLabel, permilleLabel, blockedLabel, ofLabel, refusedLabel, archiveLabel, letterL, letterT, letterR, letterA}
+use Rattle.report_lines.specs.Lines.{recordLabel, cycleLabel, shiftLabel, roundsLabel, exitLabel, greenLabel, permilleLabel, blockedLabel, ofLabel, refusedLabel, archiveLabel, letterL, letterT, letterR, letterA}
 use Rattle.report_lines.specs.Lines.{recordLine, exitLine, accessLine, blockedLine, refusedLine, archiveRefusedLine, workedText, textBy, recordText}
 
 -- ---- each line: its words, twenty digits a number, a newline
@@ -17,7 +17,7 @@ record-line : (number cycle arrival rounds : ℕ) → length (recordLine number 
 unfolding recordLine
 record-line number cycle arrival rounds =
     simp length-append
-    (omega (arith, field-length cardLabel number, field-length cycleLabel cycle, field-length shiftLabel arrival, field-length roundsLabel rounds))
+    (omega (arith, field-length recordLabel number, field-length cycleLabel cycle, field-length shiftLabel arrival, field-length roundsLabel rounds))
 
 exit-line : (label : List ℕ) (f : ExitFigures) → length (exitLine label f) ≤ length label + 78
 unfolding exitLine
@@ -35,7 +35,7 @@ blocked-line count cycle = simp length-append (omega (arith, field-length blocke
 
 refused-line : (number k : ℕ) → length (refusedLine number k) ≤ 55
 unfolding refusedLine
-refused-line number k = simp length-append (omega (arith, field-length cardLabel number, field-length refusedLabel k))
+refused-line number k = simp length-append (omega (arith, field-length recordLabel number, field-length refusedLabel k))
 
 pub archive-refused-line : (k : ℕ) → length (archiveRefusedLine k) ≤ 36
 unfolding archiveRefusedLine

@@ -12,8 +12,8 @@ use Rattle.working.specs.Working.{numberOf}
 -- ---- the words, as bytes
 
 -- "card "
-abbrev pub cardLabel : List ℕ
-cardLabel = 99 ∷ 97 ∷ 114 ∷ 100 ∷ 32 ∷ []
+abbrev pub recordLabel : List ℕ
+recordLabel = 99 ∷ 97 ∷ 114 ∷ 100 ∷ 32 ∷ []
 
 -- " cycle "
 abbrev pub cycleLabel : List ℕ
@@ -75,7 +75,7 @@ letterA = 97
 
 -- card 1 cycle 60 shift 34 rounds 1
 unfoldable pub recordLine : (number cycle arrival rounds : ℕ) → List ℕ
-recordLine number cycle arrival rounds = field cardLabel number ++ field cycleLabel cycle ++ field shiftLabel arrival ++ field roundsLabel rounds ++ newline
+recordLine number cycle arrival rounds = field recordLabel number ++ field cycleLabel cycle ++ field shiftLabel arrival ++ field roundsLabel rounds ++ newline
 
 -- exit t total 21600000 green 10800000 permille 500
 unfoldable pub exitLine : List ℕ → ExitFigures → List ℕ
@@ -91,7 +91,7 @@ blockedLine count cycle = field blockedLabel count ++ field ofLabel cycle ++ new
 
 -- card 1 refused 7
 unfoldable pub refusedLine : (number k : ℕ) → List ℕ
-refusedLine number k = field cardLabel number ++ field refusedLabel k ++ newline
+refusedLine number k = field recordLabel number ++ field refusedLabel k ++ newline
 
 -- drawer refused 2
 unfoldable pub archiveRefusedLine : ℕ → List ℕ

@@ -40,7 +40,7 @@ digits-read (suc k) n h = go (eqb (n / 10) 0) refl (digits-read k (n / 10) (tent
 pub decimal-read : (n : ℕ) → n < 2 ^ 64 → reads 0 (decimal n) ≡ n
 decimal-read n h = digits-read 20 n (omega arith)
 
--- no more digits than the size of the number needs
+-- and has no leading zeros: no more digits than the size of the number needs
 pub digits-length : (k j n : ℕ) → n < 10 ^ suc j → length (digits k n) ≤ suc j
 unfolding digits
 digits-length zero j n h = omega arith

@@ -1,7 +1,10 @@
-use Prim.Native.Nat.{_≤_}
+use Prim.Native.Nat.{_+_, _*_, _≤_, _<_}
 use native.Mathlib.Omega.{arith}
-use mathlib.Core.Path.{sym, _∙_}
+use mathlib.Core.Path.{_≡_, sym, _∙_}
+use mathlib.Core.Bool.{true}
 use lib.ListN.{length}
+use Rattle.octets.specs.Octets.{word4}
+use Rattle.archive_format.specs.Archive.{titleLimit, titleFits}
 use borrow.Author.Tests.{not-true, not-false}
 use borrow.Author.Needs.{needs}
 use Rattle.archive_read.specs.Opening.{Held, held, held-fits}
@@ -12,8 +15,17 @@ use Rattle.archive_add.proofs.add_in.Tie as tie
 here : (c : tie.After-o2) → Held (c .before .before .before .before .before .before .before .args .e) (c .before .before .before .before .before .before .before .args .s .now) (c .o2 .given .0 .0) (c .o2 .given .0 .1 .0) (c .o2 .given .0 .1 .1 .0)
 here c = held (sym (c .before .before .open .ensures) ∙ c .o2 .given .1)
 
-title : (c : tie.Else2) → length (c .before .before .before .before .before .before .before .before .before .before .before .before .args .title .now) ≤ 40
-title c = short-title (c .before .before .before .before .before .before .before .before .before .before .before .before .args .title .now) (sym (c .before .before .title-fits .ensures) ∙ not-false _ (c .if2 .left))
+clean : (c : tie.Else2) → titleFits (c .before .before .before .before .before .before .before .before .before .before .before .before .args .title .now) ≡ true
+clean c = sym (c .before .before .title-fits .ensures) ∙ not-false _ (c .if2 .left)
+
+title : (c : tie.Else2) → length (c .before .before .before .before .before .before .before .before .before .before .before .before .args .title .now) ≤ titleLimit
+title c = short-title (c .before .before .before .before .before .before .before .before .before .before .before .before .args .title .now) (clean c)
+
+above : (c : tie.Else3) → c .before .before .before .before .before .before .o2 .given .0 .1 .1 .0 < word4 (c .before .before .before .before .before .before .before .before .before .before .before .before .before .args .segment .now) 0
+above c = omega (arith, c .before .before .word4-at .ensures, c .if3 .left)
+
+fits : (c : tie.Else3) → c .before .before .before .before .before .before .o2 .given .0 .1 .0 + c .before .before .before .before .before .before .before .before .before .before .before .before .before .args .e .size + 1 + length (c .before .before .before .before .before .before .before .before .before .before .before .before .before .args .title .now) + 2 * (c .before .before .before .before .before .before .o2 .given .0 .0) + 8 < 18446744073709551616
+fits c = omega (arith, held-fits _ _ (here (c .before .before .before .before .before .before)), title (c .before), c .before .before .before .before .before .before .before .before .before .before .before .before .before .good)
 
 open-requires : tie.Need-open-requires
 open-requires c κs = search needs
@@ -40,31 +52,31 @@ returns-3 : tie.Need-returns-3
 returns-3 c = add-untitled _ _ _ _ _ (here (c .before .before .before .before .before)) (c .before .before .before .if1 .left) (sym (c .before .before .title-fits .ensures) ∙ not-true _ (c .if2 .taken))
 
 returns-4 : tie.Need-returns-4
-returns-4 c = add-low _ _ _ _ _ (here (c .before .before .before .before .before .before)) (c .before .before .before .before .if1 .left) (sym (c .before .before .before .title-fits .ensures) ∙ not-false _ (c .before .if2 .left)) (omega (arith, c .before .before .word4-at .ensures, c .if3 .taken))
+returns-4 c = add-low _ _ _ _ _ (here (c .before .before .before .before .before .before)) (c .before .before .before .before .if1 .left) (clean (c .before)) (omega (arith, c .before .before .word4-at .ensures, c .if3 .taken))
 
 add-length : tie.Need-add-length
-add-length c = omega (arith, held-fits _ _ (here (c .before .before .before .before .before .before)), title (c .before), c .before .before .before .before .before .before .before .before .before .before .before .before .before .good)
+add-length c = omega (arith, fits c)
 
 add-length-2 : tie.Need-add-length-2
-add-length-2 c = omega (arith, held-fits _ _ (here (c .before .before .before .before .before .before)), title (c .before), c .before .before .before .before .before .before .before .before .before .before .before .before .before .good)
+add-length-2 c = omega (arith, fits c)
 
 add-length-3 : tie.Need-add-length-3
-add-length-3 c = omega (arith, held-fits _ _ (here (c .before .before .before .before .before .before)), title (c .before), c .before .before .before .before .before .before .before .before .before .before .before .before .before .good)
+add-length-3 c = omega (arith, fits c)
 
 mul-length : tie.Need-mul-length
-mul-length c = omega (arith, held-fits _ _ (here (c .before .before .before .before .before .before)), title (c .before), c .before .before .before .before .before .before .before .before .before .before .before .before .before .good)
+mul-length c = omega (arith, fits c)
 
 add-length-4 : tie.Need-add-length-4
-add-length-4 c = omega (arith, held-fits _ _ (here (c .before .before .before .before .before .before)), title (c .before), c .before .before .before .before .before .before .before .before .before .before .before .before .before .good)
+add-length-4 c = omega (arith, fits c)
 
 add-length-5 : tie.Need-add-length-5
-add-length-5 c = omega (arith, held-fits _ _ (here (c .before .before .before .before .before .before)), title (c .before), c .before .before .before .before .before .before .before .before .before .before .before .before .before .good)
+add-length-5 c = omega (arith, fits c)
 
 returns-5 : tie.Need-returns-5
-returns-5 c = add-narrow _ _ _ _ _ (here (c .before .before .before .before .before .before .before)) (c .before .before .before .before .before .if1 .left) (sym (c .before .before .before .before .title-fits .ensures) ∙ not-false _ (c .before .before .if2 .left)) (omega (arith, c .before .before .before .word4-at .ensures, c .before .if3 .left)) (c .if4 .taken)
+returns-5 c = add-narrow _ _ _ _ _ (here (c .before .before .before .before .before .before .before)) (c .before .before .before .before .before .if1 .left) (clean (c .before .before)) (above (c .before)) (c .if4 .taken)
 
 returns-6 : tie.Need-returns-6
-returns-6 c = add-full _ _ _ _ _ (here (c .before .before .before .before .before .before .before .before)) (c .before .before .before .before .before .before .if1 .left) (sym (c .before .before .before .before .before .title-fits .ensures) ∙ not-false _ (c .before .before .before .if2 .left)) (omega (arith, c .before .before .before .before .word4-at .ensures, c .before .before .if3 .left)) (c .before .if4 .left) (c .if5 .taken)
+returns-6 c = add-full _ _ _ _ _ (here (c .before .before .before .before .before .before .before .before)) (c .before .before .before .before .before .before .if1 .left) (clean (c .before .before .before)) (above (c .before .before)) (c .before .if4 .left) (c .if5 .taken)
 
 grow-requires : tie.Need-grow-requires
 grow-requires c κs =
@@ -80,7 +92,7 @@ same-length : tie.Need-same-length
 same-length c = search needs
 
 returns-7 : tie.Need-returns-7
-returns-7 c = add-done _ _ _ _ _ (here (c .before .before .before .before .before .before .before .before .before .before .before .before)) (c .before .before .before .before .before .before .before .before .before .before .if1 .left) (sym (c .before .before .before .before .before .before .before .before .before .title-fits .ensures) ∙ not-false _ (c .before .before .before .before .before .before .before .if2 .left)) (omega (arith, c .before .before .before .before .before .before .before .before .word4-at .ensures, c .before .before .before .before .before .before .if3 .left)) (c .before .before .before .before .before .if4 .left) (λ i. c .before .before .before .before .before .before .before .before .before .before .before .before .before .before .before .before .before .before .shared-slice-known .given i .fits) (search needs) (c .before .before .grow .ensures)
+returns-7 c = add-done _ _ _ _ _ (here (c .before .before .before .before .before .before .before .before .before .before .before .before)) (c .before .before .before .before .before .before .before .before .before .before .if1 .left) (clean (c .before .before .before .before .before .before .before)) (above (c .before .before .before .before .before .before)) (c .before .before .before .before .before .if4 .left) (λ i. c .before .before .before .before .before .before .before .before .before .before .before .before .before .before .before .before .before .before .shared-slice-known .given i .fits) (search needs) (c .before .before .grow .ensures)
 
 pub add-in-spec : {M : Type 1} → statement M
 add-in-spec =

@@ -1,8 +1,23 @@
+use Prim.Native.Nat.{_+_, _*_}
 use native.Mathlib.Omega.{arith}
+use mathlib.Core.Path.{_∙_}
+use lib.ListN.{length}
 use borrow.Author.Needs.{needs}
-use Rattle.archive_add.proofs.Parts.{record-length, part-length, whole-put}
+use Rattle.archive_add.proofs.Parts.{Cut, Reached, record-length, part-length, whole-put}
 use Rattle.archive_add.proofs.grow.Statement.{statement}
 use Rattle.archive_add.proofs.grow.Tie as tie
+
+abbrev start : tie.After-put-record → tie.Start
+start c = c .before .before .before .before .before .before .before .before .before .before .before
+
+cut : (c : tie.Start) → Cut (c .args .s .now) (c .args .t) (c .args .count)
+cut c = part-length _ _ _ (c .pre .held)
+
+after-record : (c : tie.After-put-record) → Reached (start c .args .out .now) (c .put-record .last .0) (c .put-record .result) (start c .args .t + length (start c .args .segment .now) + 1 + length (start c .args .title .now))
+after-record c = record { place = omega (arith, cut (start c), record-length (start c .args .segment .now) (start c .args .title .now), c .before .before .before .before .put .ensures .place, c .put-record .ensures .place); long = c .put-record .kept .0 ∙ c .before .before .before .before .put .kept .0 }
+
+after-places : (c : tie.After-put2) → Reached (start (c .before .before .before .before .before) .args .out .now) (c .put2 .last .0) (c .put2 .result) (c .before .before .before .before .before .put-record .result + 2 * (start (c .before .before .before .before .before) .args .count))
+after-places c = record { place = omega (arith, cut (start (c .before .before .before .before .before)), c .put2 .ensures .place); long = c .put2 .kept .0 ∙ after-record (c .before .before .before .before .before) .long }
 
 sub-put : tie.Need-sub-put
 sub-put c = search needs
@@ -35,22 +50,22 @@ part-put-end-2 : tie.Need-part-put-end-2
 part-put-end-2 c = search needs
 
 put-requires-2 : tie.Need-put-requires-2
-put-requires-2 c κs = omega (arith, part-length (c .before .before .before .before .before .before .before .before .before .before .before .before .before .before .before .args .s .now) (c .before .before .before .before .before .before .before .before .before .before .before .before .before .before .before .args .t) (c .before .before .before .before .before .before .before .before .before .before .before .before .before .before .before .args .count) (c .before .before .before .before .before .before .before .before .before .before .before .before .before .before .before .pre .held), record-length (c .before .before .before .before .before .before .before .before .before .before .before .before .before .before .before .args .segment .now) (c .before .before .before .before .before .before .before .before .before .before .before .before .before .before .before .args .title .now), c .before .before .before .before .before .before .before .before .put .ensures .place, c .before .before .before .before .put-record .ensures .place, c .before .before .before .before .before .before .before .before .put .kept .0, c .before .before .before .before .put-record .kept .0, c .before .before .before .before .before .before .before .before .before .before .before .before .before .before .before .pre .enough)
+put-requires-2 c κs = let r = c .before .before .before .before in omega (arith, after-record r, cut (start r), start r .pre .enough)
 
 put-place-requires : tie.Need-put-place-requires
-put-place-requires c κs = (search needs, omega (arith, part-length (c .before .before .before .before .before .before .before .before .before .before .before .before .before .before .before .before .before .before .before .args .s .now) (c .before .before .before .before .before .before .before .before .before .before .before .before .before .before .before .before .before .before .before .args .t) (c .before .before .before .before .before .before .before .before .before .before .before .before .before .before .before .before .before .before .before .args .count) (c .before .before .before .before .before .before .before .before .before .before .before .before .before .before .before .before .before .before .before .pre .held), record-length (c .before .before .before .before .before .before .before .before .before .before .before .before .before .before .before .before .before .before .before .args .segment .now) (c .before .before .before .before .before .before .before .before .before .before .before .before .before .before .before .before .before .before .before .args .title .now), c .before .before .before .before .before .before .before .before .before .before .before .before .put .ensures .place, c .before .before .before .before .before .before .before .before .put-record .ensures .place, c .before .before .before .put2 .ensures .place, c .before .before .before .before .before .before .before .before .before .before .before .before .put .kept .0, c .before .before .before .before .before .before .before .before .put-record .kept .0, c .before .before .before .put2 .kept .0, c .before .before .before .before .before .before .before .before .before .before .before .before .before .before .before .before .before .before .before .pre .enough))
+put-place-requires c κs = let p = c .before .before .before in let r = p .before .before .before .before .before in (omega (arith, start r .pre .placed), omega (arith, after-record r, after-places p, start r .pre .enough))
 
 add-put-end : tie.Need-add-put-end
 add-put-end c = search needs
 
 put-end-requires : tie.Need-put-end-requires
-put-end-requires c κs = (search needs, omega (arith, part-length (c .before .before .before .before .before .before .before .before .before .before .before .before .before .before .before .before .before .before .before .before .before .before .before .args .s .now) (c .before .before .before .before .before .before .before .before .before .before .before .before .before .before .before .before .before .before .before .before .before .before .before .args .t) (c .before .before .before .before .before .before .before .before .before .before .before .before .before .before .before .before .before .before .before .before .before .before .before .args .count) (c .before .before .before .before .before .before .before .before .before .before .before .before .before .before .before .before .before .before .before .before .before .before .before .pre .held), record-length (c .before .before .before .before .before .before .before .before .before .before .before .before .before .before .before .before .before .before .before .before .before .before .before .args .segment .now) (c .before .before .before .before .before .before .before .before .before .before .before .before .before .before .before .before .before .before .before .before .before .before .before .args .title .now), c .before .before .before .before .before .before .before .before .before .before .before .before .before .before .before .before .put .ensures .place, c .before .before .before .before .before .before .before .before .before .before .before .before .put-record .ensures .place, c .before .before .before .before .before .before .before .before .before .before .before .before .before .before .before .before .before .before .before .before .before .before .before .pre .placed), omega (arith, part-length (c .before .before .before .before .before .before .before .before .before .before .before .before .before .before .before .before .before .before .before .before .before .before .before .args .s .now) (c .before .before .before .before .before .before .before .before .before .before .before .before .before .before .before .before .before .before .before .before .before .before .before .args .t) (c .before .before .before .before .before .before .before .before .before .before .before .before .before .before .before .before .before .before .before .before .before .before .before .args .count) (c .before .before .before .before .before .before .before .before .before .before .before .before .before .before .before .before .before .before .before .before .before .before .before .pre .held), record-length (c .before .before .before .before .before .before .before .before .before .before .before .before .before .before .before .before .before .before .before .before .before .before .before .args .segment .now) (c .before .before .before .before .before .before .before .before .before .before .before .before .before .before .before .before .before .before .before .before .before .before .before .args .title .now), c .before .before .before .before .before .before .before .before .before .before .before .before .before .before .before .before .put .ensures .place, c .before .before .before .before .before .before .before .before .before .before .before .before .put-record .ensures .place, c .before .before .before .before .before .before .before .put2 .ensures .place, c .before .before .before .put-place .ensures .place, c .before .before .before .before .before .before .before .before .before .before .before .before .before .before .before .before .put .kept .0, c .before .before .before .before .before .before .before .before .before .before .before .before .put-record .kept .0, c .before .before .before .before .before .before .before .put2 .kept .0, c .before .before .before .put-place .kept .0, c .before .before .before .before .before .before .before .before .before .before .before .before .before .before .before .before .before .before .before .before .before .before .before .pre .enough))
+put-end-requires c κs = let l = c .before .before .before in let p = l .before .before .before .before in let r = p .before .before .before .before .before in (omega (arith, start r .pre .few), omega (arith, after-record r, start r .pre .placed), omega (arith, after-record r, after-places p, l .put-place .ensures .place, l .put-place .kept .0, start r .pre .enough))
 
 same-length : tie.Need-same-length
 same-length c = search needs
 
 returns : tie.Need-returns
-returns c = whole-put _ _ _ _ _ _ (c .before .before .before .before .before .before .before .before .before .before .before .before .before .before .before .before .before .before .before .before .before .before .before .before .before .before .pre .held) (c .before .before .before .before .before .before .before .before .before .before .before .before .before .before .before .before .before .before .before .before .before .before .before .before .before .before .pre .enough) (c .before .before .before .before .before .before .before .before .before .before .before .before .before .before .before .before .before .before .before .put .ensures) (c .before .before .before .before .before .before .before .before .before .before .before .before .before .before .before .put-record .ensures) (c .before .before .before .before .before .before .before .before .before .before .put2 .ensures) (c .before .before .before .before .before .before .put-place .ensures) (c .before .before .put-end .ensures)
+returns c = let l = c .before .before .before .before .before .before in let p = l .before .before .before .before in let r = p .before .before .before .before .before in whole-put _ _ _ _ _ _ (start r .pre .held) (start r .pre .enough) (r .before .before .before .before .put .ensures) (r .put-record .ensures) (p .put2 .ensures) (l .put-place .ensures) (c .before .before .put-end .ensures)
 
 pub grow-spec : {M : Type 1} → statement M
 grow-spec =

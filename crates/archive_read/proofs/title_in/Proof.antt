@@ -1,4 +1,4 @@
-use Prim.Native.Nat.{_≤_}
+use Prim.Native.Nat.{_+_, _≤_}
 use native.Mathlib.Omega.{arith}
 use mathlib.Core.Path.{sym, _∙_}
 use lib.ListN.{length}
@@ -10,6 +10,9 @@ use Rattle.archive_read.proofs.title_in.Tie as tie
 
 here : (c : tie.After-f) → nextAt (c .before .before .before .before .args .e .size) (c .before .before .before .before .args .s .now) (c .f .given .0 .0) ≤ length (c .before .before .before .before .args .s .now)
 here c = title-within _ _ _ _ (sym (c .before .before .find-in .ensures) ∙ c .f .given .1)
+
+ends : (c : tie.After-long) → c .before .before .before .f .given .0 .0 + c .before .before .before .before .before .before .before .args .e .size + 1 + c .long .result ≤ length (c .before .before .before .before .before .before .before .args .s .now)
+ends c = omega (arith, here (c .before .before .before), c .long .ensures .0)
 
 find-in-requires : tie.Need-find-in-requires
 find-in-requires c κs = search needs
@@ -27,19 +30,19 @@ long-requires : tie.Need-long-requires
 long-requires c κs = search needs
 
 add-result : tie.Need-add-result
-add-result c = omega (arith, here (c .before .before .before), c .long .ensures .0)
+add-result c = omega (arith, ends c)
 
 add-result-2 : tie.Need-add-result-2
-add-result-2 c = omega (arith, here (c .before .before .before), c .long .ensures .0)
+add-result-2 c = omega (arith, ends c)
 
 add-result-3 : tie.Need-add-result-3
-add-result-3 c = omega (arith, here (c .before .before .before), c .long .ensures .0)
+add-result-3 c = omega (arith, ends c)
 
 add-result-4 : tie.Need-add-result-4
-add-result-4 c = omega (arith, here (c .before .before .before), c .long .ensures .0)
+add-result-4 c = omega (arith, ends c)
 
 add-result-5 : tie.Need-add-result-5
-add-result-5 c = omega (arith, here (c .before .before .before), c .long .ensures .0)
+add-result-5 c = omega (arith, ends c)
 
 sub-result : tie.Need-sub-result
 sub-result c = search needs
@@ -48,7 +51,7 @@ part-result-start : tie.Need-part-result-start
 part-result-start c = search needs
 
 part-result-end : tie.Need-part-result-end
-part-result-end c = omega (arith, here (c .before .before .before), c .long .ensures .0)
+part-result-end c = omega (arith, ends c)
 
 enum-told : tie.Need-enum-told
 enum-told c = search needs
