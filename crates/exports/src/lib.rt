@@ -114,9 +114,9 @@ fn volumes(d: Discharged) -> VolumesTold
             right,
         } => VolumesTold {
             number: 0,
-            left,
-            through,
-            right,
+            left: left,
+            through: through,
+            right: right,
         },
     }
 }
