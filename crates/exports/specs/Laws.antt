@@ -1,4 +1,4 @@
--- What the answers in numbers mean: the number 0 is an accepted working, and the part told of an archive is the title.
+-- What the answers in numbers mean: number and sum say the outcome, 0 is an accepted working, the part told of an archive is the title.
 use Prim.Native.Nat.{ℕ}
 use mathlib.Core.Bool.{Bool, true, false}
 use mathlib.Core.Path.{_≡_, refl, sym, ap, subst, _∙_}
@@ -13,13 +13,24 @@ use Rattle.segment.specs.Segment.{segmentOf}
 use Rattle.shares.specs.Sharing.{Told}
 use Rattle.propagation.specs.Propagation.{Profiles, filledOf}
 use Rattle.demand3.specs.Demand3.{Demand3}
-use Rattle.working.specs.declared.Outcome.the-variants.{Worked}
+use Rattle.working.specs.declared.Outcome.the-variants.{Worked, Refused, Unsettled}
 use Rattle.working.specs.declared.Working.{Working}
 use Rattle.working.specs.Working.{Called, called, Works, acceptOf, callOf, byRecord, bySharing, numberOf, outcomeOf, outcome-number, sharingOf, unworkedOf, workedOf}
 use Rattle.archive_format.specs.Archive.{answerOf, findOf, segments, titleAt, titleOf}
 use Rattle.exports.specs.declared.WorkTold.{WorkTold}
 use Rattle.exports.specs.declared.TitleTold.{TitleTold}
-use Rattle.exports.specs.Exports.{WorksTold, toldOf, titlePartOf}
+use Rattle.exports.specs.Exports.{WorksTold, sumOf, toldOf, titlePartOf}
+
+-- nothing is lost: number and sum say which outcome it was
+pub told-outcome : (n : ℕ) (sum : Float) → outcomeOf (numberOf (outcomeOf n sum)) (sumOf (outcomeOf n sum)) ≡ outcomeOf n sum
+told-outcome n sum = go (eqb n 0) refl (eqb n 15) refl
+  where
+    go : (a : Bool) → eqb n 0 ≡ a → (b : Bool) → eqb n 15 ≡ b
+        → outcomeOf (numberOf (pick a (Worked sum) (pick b (Unsettled sum) (Refused n)))) (sumOf (pick a (Worked sum) (pick b (Unsettled sum) (Refused n))))
+        ≡ pick a (Worked sum) (pick b (Unsettled sum) (Refused n))
+    go true ea b eb = refl
+    go false ea true eb = refl
+    go false ea false eb = rw (ea, eb)
 
 -- what has the number 0 is worked
 zero-is-worked : (n : ℕ) (sum : Float) → numberOf (outcomeOf n sum) ≡ 0 → outcomeOf n sum ≡ Worked sum
@@ -63,7 +74,7 @@ works-told l p w p′ r works e =
         let d = works .demand (a .sum) (ap (λ (c : Called). c .answer .outcome) (works .is) ∙ a .is) in
         subst (λ (rows : List (List ℕ)). Demand3 (segmentOf l) rows (p′ .output)) (sym (ap (λ (t : WorkTold). t .pairs .rows) e)) d
 
-abbrev partOf : TitleTold → List ℕ → List ℕ
+abbrev pub partOf : TitleTold → List ℕ → List ℕ
 partOf t l = take (t .length) (drop (t .place) l)
 
 -- the part of the archive that is told is the title
