@@ -8,6 +8,7 @@ ghost use Rattle.exit_figures.specs.ExitFigures.{onGreen, permilleOf, fi
 use signal::Green;
 
 // A run's flow units in the cycle and in its green steps, and the thousandths that arrive on green.
+#[repr(C)]
 pub struct ExitFigures {
     pub total: u64,
     pub green: u64,

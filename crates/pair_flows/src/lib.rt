@@ -3,6 +3,7 @@ ghost use mathlib.Core.Path.{_≡_};
 ghost use Rattle.pair_flows.specs.Pairs.{pairFlows, rowsOf};
 
 // Flow units of each pair: a row of four exits for each entry.
+#[repr(C)]
 pub struct PairFlows {
     pub rows: [[u32; 4]; 4],
 }

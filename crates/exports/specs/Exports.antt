@@ -1,0 +1,63 @@
+-- The library's answers as structs of numbers: the paper's number, 0 where accepted, and the values beside it.
+use Prim.Native.Nat.{ℕ, _+_}
+use mathlib.Core.Path.{_≡_}
+use mathlib.Core.List.{List}
+use lib.Ieee.{Float}
+use lib.ListN.{getD}
+use Rattle.flows.specs.Flows.{zero64}
+use Rattle.segment.specs.Segment.{segmentOf}
+use Rattle.propagation.specs.Propagation.{Profiles}
+use Rattle.demand3.specs.Demand3.{Demand3}
+use Rattle.working.specs.declared.Outcome.{Outcome}
+use Rattle.working.specs.declared.Outcome.the-variants.{Worked, Refused as RefusedWork, Unsettled}
+use Rattle.working.specs.declared.Working.{Working}
+use Rattle.working.specs.Working.{numberOf, callOf}
+use Rattle.discharge.specs.declared.Discharged.{Discharged}
+use Rattle.discharge.specs.declared.Discharged.the-variants.{Refused as RefusedVolumes, Volumes}
+use Rattle.archive_format.specs.declared.Answer.{Answer}
+use Rattle.archive_format.specs.declared.Answer.the-variants.{Is, Refused}
+use Rattle.archive_format.specs.Archive.{segments}
+use Rattle.exports.specs.declared.WorkTold.{WorkTold}
+use Rattle.exports.specs.declared.VolumesTold.{VolumesTold}
+use Rattle.exports.specs.declared.ValueTold.{ValueTold}
+use Rattle.exports.specs.declared.TitleTold.{TitleTold}
+
+-- the last sum beside an outcome's number: 0 and 15 tell it
+abbrev pub sumOf : Outcome → Float
+sumOf (Worked sum) = sum
+sumOf (RefusedWork number) = zero64
+sumOf (Unsettled sum) = sum
+
+abbrev pub toldOf : Working → WorkTold
+toldOf w =
+    record {
+      number = numberOf (w .outcome);
+      rounds = w .rounds;
+      sum = sumOf (w .outcome);
+      arrival = w .arrival;
+      blocked = w .blocked;
+      pairs = w .pairs;
+      left = w .left;
+      through = w .through;
+      right = w .right;
+      access = w .access;
+    }
+
+-- the working as called: its answer in numbers, all three profiles, and demand 3 of every record and all profiles that it accepts
+pub record WorksTold (l : List ℕ) (p : Profiles) (r : WorkTold) (p′ : Profiles) : Type 0 where
+  pub answer : r ≡ toldOf (callOf l p .answer)
+  pub after : p′ ≡ callOf l p .after
+  pub demand : r .number ≡ 0 → Demand3 (segmentOf l) (r .pairs .rows) (p′ .output)
+
+abbrev pub volumesOf : Discharged → VolumesTold
+volumesOf (RefusedVolumes n) = record { number = n; left = 0; through = 0; right = 0 }
+volumesOf (Volumes left through right) = record { number = 0; left = left; through = through; right = right }
+
+abbrev pub valueOf : Answer → ValueTold
+valueOf (Refused n) = record { number = n; value = 0 }
+valueOf (Is n) = record { number = 0; value = n }
+
+-- the title of the record that finding answered: it follows the record and its own length
+abbrev pub titlePartOf : List ℕ → Answer → TitleTold
+titlePartOf l (Refused n) = record { number = n; place = 0; length = 0 }
+titlePartOf l (Is p) = record { number = 0; place = p + segments .size + 1; length = getD l (p + segments .size) 0 }

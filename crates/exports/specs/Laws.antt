@@ -1,0 +1,87 @@
+-- What the answers in numbers mean: number and sum say the outcome, 0 is an accepted working, the part told of an archive is the title.
+use Prim.Native.Nat.{ℕ}
+use mathlib.Core.Bool.{Bool, true, false}
+use mathlib.Core.Path.{_≡_, refl, sym, ap, subst, _∙_}
+use mathlib.Core.List.{List}
+use lib.Dec.{eqb}
+use lib.Ieee.{Float}
+use lib.ListN.{length, take, drop}
+use Rattle.refusal.specs.Refusal.{Or, refused, ok, pick}
+use Rattle.flows.specs.Flows.{zero64}
+use Rattle.segment.specs.declared.Segment.{Segment}
+use Rattle.segment.specs.Segment.{segmentOf}
+use Rattle.shares.specs.Sharing.{Told}
+use Rattle.propagation.specs.Propagation.{Profiles, filledOf}
+use Rattle.demand3.specs.Demand3.{Demand3}
+use Rattle.working.specs.declared.Outcome.the-variants.{Worked, Refused, Unsettled}
+use Rattle.working.specs.declared.Working.{Working}
+use Rattle.working.specs.Working.{Called, called, Works, acceptOf, callOf, byRecord, bySharing, numberOf, outcomeOf, outcome-number, sharingOf, unworkedOf, workedOf}
+use Rattle.archive_format.specs.Archive.{answerOf, findOf, segments, titleAt, titleOf}
+use Rattle.exports.specs.declared.WorkTold.{WorkTold}
+use Rattle.exports.specs.declared.TitleTold.{TitleTold}
+use Rattle.exports.specs.Exports.{WorksTold, sumOf, toldOf, titlePartOf}
+
+-- nothing is lost: number and sum say which outcome it was
+pub told-outcome : (n : ℕ) (sum : Float) → outcomeOf (numberOf (outcomeOf n sum)) (sumOf (outcomeOf n sum)) ≡ outcomeOf n sum
+told-outcome n sum = go (eqb n 0) refl (eqb n 15) refl
+  where
+    go : (a : Bool) → eqb n 0 ≡ a → (b : Bool) → eqb n 15 ≡ b
+        → outcomeOf (numberOf (pick a (Worked sum) (pick b (Unsettled sum) (Refused n)))) (sumOf (pick a (Worked sum) (pick b (Unsettled sum) (Refused n))))
+        ≡ pick a (Worked sum) (pick b (Unsettled sum) (Refused n))
+    go true ea b eb = refl
+    go false ea true eb = refl
+    go false ea false eb = rw (ea, eb)
+
+-- what has the number 0 is worked
+zero-is-worked : (n : ℕ) (sum : Float) → numberOf (outcomeOf n sum) ≡ 0 → outcomeOf n sum ≡ Worked sum
+zero-is-worked n sum e = ap (λ (m : ℕ). outcomeOf m sum) (sym (outcome-number n sum) ∙ e)
+
+-- so it is of every call
+pub record WorkedAt (c : Called) : Type 0 where
+  pub sum : Float
+  pub is : c .answer .outcome ≡ Worked sum
+
+shared-worked : (s : Segment) (t : Told) (p : Profiles) → numberOf (bySharing s t p .answer .outcome) ≡ 0 → WorkedAt (bySharing s t p)
+unfolding workedOf
+shared-worked s t p = go (eqb (t .number) 0)
+  where
+    go : (b : Bool)
+        → numberOf (pick b (called (workedOf s t) (filledOf s (t .pairs) p)) (called (unworkedOf t) p) .answer .outcome) ≡ 0
+        → WorkedAt (pick b (called (workedOf s t) (filledOf s (t .pairs) p)) (called (unworkedOf t) p))
+    go true e = record { sum = t .sum; is = refl }
+    go false e = record { sum = t .sum; is = zero-is-worked (t .number) (t .sum) e }
+
+pub call-worked : (l : List ℕ) (p : Profiles) → numberOf (callOf l p .answer .outcome) ≡ 0 → WorkedAt (callOf l p)
+unfolding callOf
+call-worked l p = go (acceptOf l (length (p .output)) (length (p .first)) (length (p .second)))
+  where
+    go : (x : Or Segment) → numberOf (byRecord x p .answer .outcome) ≡ 0 → WorkedAt (byRecord x p)
+    go (refused n) e = record { sum = zero64; is = zero-is-worked n zero64 e }
+    go (ok s) e = shared-worked s (sharingOf s) p e
+
+-- the call's contract, in numbers
+pub works-told : (l : List ℕ) (p : Profiles) (w : Working) (p′ : Profiles) (r : WorkTold) → Works l p w p′ → r ≡ toldOf w → WorksTold l p r p′
+works-told l p w p′ r works e =
+    let same : w ≡ callOf l p .answer = ap (λ (c : Called). c .answer) (works .is) in
+    record {
+      answer = e ∙ ap toldOf same;
+      after = ap (λ (c : Called). c .after) (works .is);
+      demand = λ z. demanded (call-worked l p (sym (ap (λ (v : Working). numberOf (v .outcome)) same) ∙ sym (ap (λ (t : WorkTold). t .number) e) ∙ z));
+    }
+  where
+    demanded : WorkedAt (callOf l p) → Demand3 (segmentOf l) (r .pairs .rows) (p′ .output)
+    demanded a =
+        let d = works .demand (a .sum) (ap (λ (c : Called). c .answer .outcome) (works .is) ∙ a .is) in
+        subst (λ (rows : List (List ℕ)). Demand3 (segmentOf l) rows (p′ .output)) (sym (ap (λ (t : WorkTold). t .pairs .rows) e)) d
+
+abbrev pub partOf : TitleTold → List ℕ → List ℕ
+partOf t l = take (t .length) (drop (t .place) l)
+
+-- the part of the archive that is told is the title
+pub title-told : (l : List ℕ) (n : ℕ) → partOf (titlePartOf l (answerOf (findOf segments l n))) l ≡ titleOf segments l n
+unfolding titleOf
+title-told l n = go (findOf segments l n)
+  where
+    go : (x : Or ℕ) → partOf (titlePartOf l (answerOf x)) l ≡ titleAt (segments .size) l x
+    go (refused m) = refl
+    go (ok p) = refl

@@ -1,0 +1,225 @@
+// The library's calls for programs in C or Rust: a slice passes as a pointer and a length, an answer is a struct of numbers.
+// `number` is the paper's number of a refusal, 0 where the call accepts; what a refusal does not tell is 0.
+ghost use mathlib.Core.Path.{_≡_};
+ghost use lib.ListN.{length};
+ghost use Rattle.propagation.specs.Propagation.{profiles};
+ghost use Rattle.working.specs.Working.{numberOf};
+ghost use Rattle.discharge.specs.Discharge.{acceptOf, profileAfter};
+ghost use Rattle.discharge.specs.Discharge.{answerOf as volumesAnswer};
+ghost use Rattle.archive_format.specs.Archive.{addOf, answerOf, countOf, findOf, newLength, overwrite, placeOf, segments};
+ghost use Rattle.text.specs.Text.{Wrote};
+ghost use Rattle.report.specs.Report.{inputText};
+ghost use Rattle.exports.specs.Exports.{WorksTold, sumOf, toldOf, volumesOf, valueOf, titlePartOf};
+use archive_format::Answer;
+use discharge::Discharged;
+use exit_figures::ExitFigures;
+use pair_flows::PairFlows;
+use working::Outcome;
+use working::Working;
+
+// A working's answer: 0 and 15 tell the last sum.
+#[repr(C)]
+pub struct WorkTold {
+    pub number: u32,
+    pub rounds: u32,
+    pub sum: f64,
+    pub arrival: u32,
+    pub blocked: u32,
+    pub pairs: PairFlows,
+    pub left: ExitFigures,
+    pub through: ExitFigures,
+    pub right: ExitFigures,
+    pub access: u64,
+}
+
+// The three entries' discharge volumes in veh/h.
+#[repr(C)]
+pub struct VolumesTold {
+    pub number: u32,
+    pub left: u32,
+    pub through: u32,
+    pub right: u32,
+}
+
+// A count, a place or a length.
+#[repr(C)]
+pub struct ValueTold {
+    pub number: u32,
+    pub value: usize,
+}
+
+// Where a title stands in its archive.
+#[repr(C)]
+pub struct TitleTold {
+    pub number: u32,
+    pub place: usize,
+    pub length: usize,
+}
+
+fn number_of(outcome: Outcome) -> u32
+    ensures { λ r. ⌜ r ≡ numberOf outcome ⌝ }
+{
+    match outcome {
+        Outcome::Worked(_) => 0,
+        Outcome::Refused(n) => n,
+        Outcome::Unsettled(_) => 15,
+    }
+}
+
+fn sum_of(outcome: Outcome) -> f64
+    ensures { λ r. ⌜ r ≡ sumOf outcome ⌝ }
+{
+    match outcome {
+        Outcome::Worked(sum) => sum,
+        Outcome::Refused(_) => 0.0,
+        Outcome::Unsettled(sum) => sum,
+    }
+}
+
+fn told(w: Working) -> WorkTold
+    ensures { λ r. ⌜ r ≡ toldOf w ⌝ }
+{
+    let outcome = w.outcome;
+    let pairs = w.pairs;
+    let left = w.left;
+    let through = w.through;
+    let right = w.right;
+    WorkTold {
+        number: number_of(outcome),
+        rounds: w.rounds,
+        sum: sum_of(outcome),
+        arrival: w.arrival,
+        blocked: w.blocked,
+        pairs,
+        left,
+        through,
+        right,
+        access: w.access,
+    }
+}
+
+fn volumes(d: Discharged) -> VolumesTold
+    ensures { λ r. ⌜ r ≡ volumesOf d ⌝ }
+{
+    match d {
+        Discharged::Refused(n) => VolumesTold {
+            number: n,
+            left: 0,
+            through: 0,
+            right: 0,
+        },
+        Discharged::Volumes {
+            left,
+            through,
+            right,
+        } => VolumesTold {
+            number: 0,
+            left: left,
+            through: through,
+            right: right,
+        },
+    }
+}
+
+fn value(a: Answer) -> ValueTold
+    ensures { λ r. ⌜ r ≡ valueOf a ⌝ }
+{
+    match a {
+        Answer::Refused(n) => ValueTold {
+            number: n,
+            value: 0,
+        },
+        Answer::Is(n) => ValueTold {
+            number: 0,
+            value: n,
+        },
+    }
+}
+
+// `working::work`.
+#[no_mangle]
+pub extern "C" fn segment_work(
+    bytes: &[u8],
+    output: &mut [u32],
+    first: &mut [u32],
+    second: &mut [u32],
+) -> WorkTold
+    ensures { λ r. ⌜ WorksTold (now (bytes .entry)) (profiles (now (output .entry)) (now (first .entry)) (now (second .entry))) r (profiles (now (output .exit)) (now (first .exit)) (now (second .exit))) ⌝ }
+{
+    told(working::work(bytes, output, first, second))
+}
+
+// `discharge::discharge`.
+#[no_mangle]
+pub extern "C" fn segment_discharge(bytes: &[u8], profile: &mut [u32]) -> VolumesTold
+    ensures { λ r. ⌜ r ≡ volumesOf (volumesAnswer (acceptOf (now (bytes .entry)) (length (now (profile .entry))))) ⌝ }
+    ensures { λ _. ⌜ now (profile .exit) ≡ profileAfter (acceptOf (now (bytes .entry)) (length (now (profile .entry)))) (now (profile .entry)) ⌝ }
+{
+    volumes(discharge::discharge(bytes, profile))
+}
+
+// `archive_read::count`.
+#[no_mangle]
+pub extern "C" fn archive_count(archive: &[u8]) -> ValueTold
+    ensures { λ r. ⌜ r ≡ valueOf (answerOf (countOf segments (now (archive .entry)))) ⌝ }
+{
+    value(archive_read::count(archive))
+}
+
+// `archive_read::place`, the index from 0.
+#[no_mangle]
+pub extern "C" fn archive_place(archive: &[u8], i: usize) -> ValueTold
+    ensures { λ r. ⌜ r ≡ valueOf (answerOf (placeOf segments (now (archive .entry)) i)) ⌝ }
+{
+    value(archive_read::place(archive, i))
+}
+
+// `archive_read::find`.
+#[no_mangle]
+pub extern "C" fn archive_find(archive: &[u8], number: u32) -> ValueTold
+    ensures { λ r. ⌜ r ≡ valueOf (answerOf (findOf segments (now (archive .entry)) number)) ⌝ }
+{
+    value(archive_read::find(archive, number))
+}
+
+// `archive_read::title`, as a place in the archive and a length, since no reference is handed to C.
+#[no_mangle]
+pub extern "C" fn archive_title(archive: &[u8], number: u32) -> TitleTold
+    ensures { λ r. ⌜ r ≡ titlePartOf (now (archive .entry)) (answerOf (findOf segments (now (archive .entry)) number)) ⌝ }
+{
+    let found = archive_read::find(archive, number);
+    match found {
+        Answer::Refused(n) => TitleTold {
+            number: n,
+            place: 0,
+            length: 0,
+        },
+        Answer::Is(at) => TitleTold {
+            number: 0,
+            place: at + segment::SIZE + 1,
+            length: archive[at + segment::SIZE] as usize,
+        },
+    }
+}
+
+// `archive_add::add`.
+#[no_mangle]
+pub extern "C" fn archive_add(
+    archive: &[u8],
+    bytes: &[u8],
+    title: &[u8],
+    buffer: &mut [u8],
+) -> ValueTold
+    ensures { λ r. ⌜ r ≡ valueOf (newLength (addOf segments (now (archive .entry)) (now (bytes .entry)) (now (title .entry)) (length (now (buffer .entry))))) ⌝ }
+    ensures { λ _. ⌜ now (buffer .exit) ≡ overwrite (addOf segments (now (archive .entry)) (now (bytes .entry)) (now (title .entry)) (length (now (buffer .entry)))) (now (buffer .entry)) ⌝ }
+{
+    value(archive_add::add(archive, bytes, title, buffer))
+}
+
+// `report::report`.
+#[no_mangle]
+pub extern "C" fn archive_report(archive: &[u8], text: &mut [u8]) -> usize
+    ensures { λ r. ⌜ Wrote (now (text .entry)) 0 (inputText (now (archive .entry))) (now (text .exit)) r ⌝ }
+{
+    report::report(archive, text)
+}

@@ -1,0 +1,165 @@
+//! The library's calls as crate `exports` declares them, each wrapped in a safe function.
+//! A slice passes as a pointer and a length. No call asks anything of its caller, so the wrappers test nothing.
+
+#[repr(C)]
+#[derive(Clone, Copy)]
+pub struct ExitFigures {
+    pub total: u64,
+    pub green: u64,
+    pub permille: u32,
+}
+
+#[repr(C)]
+#[derive(Clone, Copy)]
+pub struct WorkTold {
+    pub number: u32,
+    pub rounds: u32,
+    pub sum: f64,
+    pub arrival: u32,
+    pub blocked: u32,
+    pub pairs: [[u32; 4]; 4],
+    pub left: ExitFigures,
+    pub through: ExitFigures,
+    pub right: ExitFigures,
+    pub access: u64,
+}
+
+#[repr(C)]
+#[derive(Clone, Copy)]
+pub struct VolumesTold {
+    pub number: u32,
+    pub left: u32,
+    pub through: u32,
+    pub right: u32,
+}
+
+#[repr(C)]
+#[derive(Clone, Copy)]
+pub struct ValueTold {
+    pub number: u32,
+    pub value: usize,
+}
+
+#[repr(C)]
+#[derive(Clone, Copy)]
+pub struct TitleTold {
+    pub number: u32,
+    pub place: usize,
+    pub length: usize,
+}
+
+mod library {
+    use super::{TitleTold, ValueTold, VolumesTold, WorkTold};
+
+    extern "C" {
+        pub fn segment_work(
+            bytes: *const u8,
+            bytes_length: usize,
+            output: *mut u32,
+            output_length: usize,
+            first: *mut u32,
+            first_length: usize,
+            second: *mut u32,
+            second_length: usize,
+        ) -> WorkTold;
+        pub fn segment_discharge(
+            bytes: *const u8,
+            bytes_length: usize,
+            profile: *mut u32,
+            profile_length: usize,
+        ) -> VolumesTold;
+        pub fn archive_count(archive: *const u8, archive_length: usize) -> ValueTold;
+        pub fn archive_place(archive: *const u8, archive_length: usize, i: usize) -> ValueTold;
+        pub fn archive_find(archive: *const u8, archive_length: usize, number: u32) -> ValueTold;
+        pub fn archive_title(archive: *const u8, archive_length: usize, number: u32) -> TitleTold;
+        pub fn archive_add(
+            archive: *const u8,
+            archive_length: usize,
+            bytes: *const u8,
+            bytes_length: usize,
+            title: *const u8,
+            title_length: usize,
+            buffer: *mut u8,
+            buffer_length: usize,
+        ) -> ValueTold;
+        pub fn archive_report(
+            archive: *const u8,
+            archive_length: usize,
+            text: *mut u8,
+            text_length: usize,
+        ) -> usize;
+    }
+}
+
+pub fn segment_work(
+    bytes: &[u8],
+    output: &mut [u32],
+    first: &mut [u32],
+    second: &mut [u32],
+) -> WorkTold {
+    unsafe {
+        library::segment_work(
+            bytes.as_ptr(),
+            bytes.len(),
+            output.as_mut_ptr(),
+            output.len(),
+            first.as_mut_ptr(),
+            first.len(),
+            second.as_mut_ptr(),
+            second.len(),
+        )
+    }
+}
+
+pub fn segment_discharge(bytes: &[u8], profile: &mut [u32]) -> VolumesTold {
+    unsafe {
+        library::segment_discharge(
+            bytes.as_ptr(),
+            bytes.len(),
+            profile.as_mut_ptr(),
+            profile.len(),
+        )
+    }
+}
+
+pub fn archive_count(archive: &[u8]) -> ValueTold {
+    unsafe { library::archive_count(archive.as_ptr(), archive.len()) }
+}
+
+pub fn archive_place(archive: &[u8], i: usize) -> ValueTold {
+    unsafe { library::archive_place(archive.as_ptr(), archive.len(), i) }
+}
+
+pub fn archive_find(archive: &[u8], number: u32) -> ValueTold {
+    unsafe { library::archive_find(archive.as_ptr(), archive.len(), number) }
+}
+
+pub fn archive_title(archive: &[u8], number: u32) -> TitleTold {
+    unsafe { library::archive_title(archive.as_ptr(), archive.len(), number) }
+}
+
+pub fn archive_add(archive: &[u8], bytes: &[u8], title: &[u8], buffer: &mut [u8]) -> ValueTold {
+    unsafe {
+        library::archive_add(
+            archive.as_ptr(),
+            archive.len(),
+            bytes.as_ptr(),
+            bytes.len(),
+            title.as_ptr(),
+            title.len(),
+            buffer.as_mut_ptr(),
+            buffer.len(),
+        )
+    }
+}
+
+pub fn archive_report(archive: &[u8], text: &mut [u8]) -> usize {
+    unsafe {
+        library::archive_report(
+            archive.as_ptr(),
+            archive.len(),
+            text.as_mut_ptr(),
+            text.len(),
+        )
+    }
+}

@@ -1,0 +1,51 @@
+//! Compares the library, linked over its C interface, with the reference: every number that its calls return or write.
+//! It prints one line of counts, or the first case that differs.
+
+mod archives;
+mod calls;
+mod records;
+mod same;
+
+use std::process::ExitCode;
+
+use reference::random::Random;
+
+use crate::archives::compare_archive;
+use crate::records::{compare_record, KINDS};
+use crate::same::{Same, Tally};
+
+const SEED: u64 = 0x11_47ed;
+const RECORDS: u32 = 2000 * KINDS;
+const ARCHIVES: u32 = 2400;
+
+/// What a call on a record can answer, and what the calls on archives can.
+const RECORD_NUMBERS: [u32; 12] = [0, 6, 7, 8, 9, 10, 11, 12, 13, 14, 15, 16];
+const ARCHIVE_NUMBERS: [u32; 9] = [0, 1, 2, 3, 4, 5, 6, 17, 18];
+
+fn all_records(tally: &mut Tally) -> Same {
+    let mut random = Random::new(SEED);
+    (0..RECORDS).try_for_each(|n| compare_record(&mut random, n, tally))?;
+    tally.met("record", &RECORD_NUMBERS)
+}
+
+fn all_archives(tally: &mut Tally) -> Same {
+    let mut random = Random::new(SEED + 1);
+    (0..ARCHIVES).try_for_each(|n| compare_archive(&mut random, n, tally))?;
+    tally.met("call on an archive", &ARCHIVE_NUMBERS)
+}
+
+fn main() -> ExitCode {
+    let mut records = Tally::default();
+    let mut archives = Tally::default();
+    match all_records(&mut records).and_then(|()| all_archives(&mut archives)) {
+        Ok(()) => {
+            let (r, a) = (records.text(), archives.text());
+            println!("linked: {RECORDS} records ({r}), {ARCHIVES} archives ({a}), none differ");
+            ExitCode::SUCCESS
+        }
+        Err(difference) => {
+            println!("linked: {difference}");
+            ExitCode::FAILURE
+        }
+    }
+}
