@@ -60,7 +60,7 @@ fn add_in(e: Edition, s: &[u8], segment: &[u8], title: &[u8], out: &mut [u8]) ->
                 return Answer::Refused(6);
             }
             let fits = title_fits(title);
-            let number = octets::word4_at(segment, 0);
+            let number = octets::word4_at(segment, segment::NUMBER_AT);
             if !fits {
                 return Answer::Refused(4);
             }

@@ -32,7 +32,7 @@ pub record Filed : Type 0 where
   pub title : List ℕ
 
 abbrev pub numberOf : Filed → ℕ
-numberOf f = word4 (f .bytes) 0
+numberOf f = word4 (f .bytes) layout.numberAt
 
 -- records one after another: the bytes, the title's length, the title
 unfoldable pub body : List Filed → List ℕ
@@ -157,7 +157,7 @@ unfoldable pub addTo : Edition → List ℕ → List ℕ → ℕ → List Filed 
 addTo e b t room fs =
     need 6 (eqb (length b) (e .size))
     (need 4 (titleFits t)
-    (need 5 (ltb (lastNumber 0 fs) (word4 b 0))
+    (need 5 (ltb (lastNumber 0 fs) (word4 b layout.numberAt))
     (need 17 (leb (length (encode e (fs ++ single b t))) room)
     (need 18 (ltb (length fs) recordLimit)
     (ok (encode e (fs ++ single b t)))))))

@@ -14,9 +14,6 @@ use Rattle.pair_parts.specs.Laws.{part-le, rest-lt, pair-parts, pair-without}
 use Rattle.arrivals.specs.declared.Part.{Part}
 use Rattle.arrivals.specs.Arrivals.{PairRanges}
 
-pub product-fits : (arrival v carry : ℕ) → arrival < 2 ^ 32 → v < 2 ^ 32 → carry < 2 ^ 32 → arrival * v + carry < 2 ^ 64
-product-fits arrival v carry ha hv hc = omega (arith, mul-le-mul-left arrival (le-pred-of-lt hv))
-
 -- i arrivals added, the rest to come
 pub record Adding (arrived : List ℕ) (v w t : ℕ) (run₀ run : List ℕ) (carry i : ℕ) : Type 0 where
   pub within : i ≤ length arrived

@@ -78,11 +78,6 @@ module _ {l : List ℕ} {count : ℕ} {b₀ : List ℕ} {at : ℕ} {b : List ℕ
   unfolding filedFrom recordsText
   report-done h = let e : left ≡ 0 = omega arith in record { is = sym (rw e at (r .same) ∙ put-nil b p) }
 
--- lending keeps the work profiles' lengths
-pub room-kept : (p p′ : Profiles) → Room 240 p → length (p′ .output) ≡ length (p .output) → length (p′ .first) ≡ length (p .first)
-    → length (p′ .second) ≡ length (p .second) → Room 240 p′
-room-kept p p′ r eo ef es = record { output = omega (arith, r .output); first = omega (arith, r .first); second = omega (arith, r .second) }
-
 -- ---- the archive
 
 module _ (l : List ℕ) {b : List ℕ} {at : ℕ} {b′ : List ℕ} {p : ℕ} where

@@ -5,6 +5,7 @@ use lib.Dec.{ltb}
 use lib.ListN.{length, replicate}
 use Rattle.refusal.specs.Refusal.{Or, refused, ok, pick}
 use Rattle.octets.specs.Octets.{word4}
+use Rattle.segment.specs.Layout.{numberAt}
 use Rattle.segment.specs.Segment.{segmentOf}
 use Rattle.propagation.specs.Propagation.{Profiles, profiles}
 use Rattle.working.specs.Working.{callOf}
@@ -17,7 +18,7 @@ longest = profiles (replicate 960 0) (replicate 240 0) (replicate 240 0)
 
 -- a record is worked from its own bytes
 unfoldable pub segmentText : List ℕ → List ℕ
-segmentText bytes = recordText (word4 bytes 0) (segmentOf bytes .cycle) (callOf bytes longest .answer)
+segmentText bytes = recordText (word4 bytes numberAt) (segmentOf bytes .cycle) (callOf bytes longest .answer)
 
 -- ---- an archive
 

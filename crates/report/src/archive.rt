@@ -24,7 +24,7 @@ fn segment_text(
     requires { ⌜ (length (now bytes) ≡ size) × Room 240 (profiles (now output) (now first) (now second)) ⌝ }
     ensures { λ r. ⌜ Wrote (now (text .entry)) at (segmentText (now (bytes .entry))) (now (text .exit)) r ⌝ }
 {
-    let number = octets::word4_at(bytes, 0);
+    let number = octets::word4_at(bytes, segment::NUMBER_AT);
     let cycle = octets::word2_at(bytes, segment::CYCLE_AT);
     let w = working::work(bytes, output, first, second);
     report_lines::record_text(text, at, number, cycle, w)

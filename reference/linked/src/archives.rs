@@ -5,7 +5,7 @@ use reference::random::Random;
 use reference::record::{CYCLE_LEAST, CYCLE_MOST, NUMBER_AT, RECORD_BYTES};
 use reference::refusal::{ABSENT, ARCHIVE_TRAILER};
 use reference::report::{report, INPUT_MOST};
-use reference::samples::{busy, put_u32, random_card};
+use reference::samples::{busy, put_u32, random_record};
 use reference::vectors::archive::write;
 use reference::vectors::buffer_before;
 
@@ -56,7 +56,7 @@ fn record(random: &mut Random, number: u32) -> Bytes {
     let cycle = random.with_ends(CYCLE_LEAST, CYCLE_MOST);
     let mut bytes = match random.below(4) {
         0 => busy(cycle),
-        _ => random_card(random, cycle),
+        _ => random_record(random, cycle),
     };
     if random.one_in(8) {
         let at = random.between(4, RECORD_BYTES as u32 - 1) as usize;

@@ -7,7 +7,7 @@ use reference::record::{
     ACCESS_AT, CYCLE_LEAST, CYCLE_MOST, HEADWAY_AT, RECORD_BYTES, RUNNING_TIME_AT,
 };
 use reference::samples::{
-    busy, put_downstream, put_entry, put_exits, put_seeds, put_u16, put_u32, quiet, random_card,
+    busy, put_downstream, put_entry, put_exits, put_seeds, put_u16, put_u32, quiet, random_record,
     random_seeds,
 };
 use reference::vectors::faults::{fault_pairs, faults};
@@ -49,7 +49,7 @@ fn record(random: &mut Random, kind: u32, cycle: u32) -> Vec<u8> {
         5 => other_length(random, cycle),
         6 => random.bytes(RECORD_BYTES),
         7 => quiet(cycle).to_vec(),
-        _ => random_card(random, cycle).to_vec(),
+        _ => random_record(random, cycle).to_vec(),
     }
 }
 
@@ -62,7 +62,7 @@ fn long(random: &mut Random) -> Bytes {
 
 /// Greens past the end of the cycle, upstream and downstream.
 fn wrapped(random: &mut Random, cycle: u32) -> Bytes {
-    let mut record = random_card(random, cycle);
+    let mut record = random_record(random, cycle);
     for i in 0..3 {
         let (start, length) = past_end(random, cycle);
         let volume = random.between(50, 1500);
@@ -122,13 +122,13 @@ fn faulty(random: &mut Random) -> Bytes {
 
 /// One byte changed anywhere.
 fn changed(random: &mut Random, cycle: u32) -> Bytes {
-    let mut record = random_card(random, cycle);
+    let mut record = random_record(random, cycle);
     record[random.below(RECORD_BYTES as u32) as usize] = random.below(256) as u8;
     record
 }
 
 fn other_length(random: &mut Random, cycle: u32) -> Vec<u8> {
-    let mut record = random_card(random, cycle).to_vec();
+    let mut record = random_record(random, cycle).to_vec();
     record.resize(random.with_ends(0, 2 * RECORD_BYTES as u32) as usize, 0);
     record
 }

@@ -3,7 +3,8 @@ use native.Mathlib.Omega.{arith}
 use lib.ListN.{length, length-take, length-drop}
 use borrow.Author.Needs.{needs}
 use Rattle.propagation.specs.Propagation.{profiles}
-use Rattle.report.proofs.Records.{Reporting, report-start, report-fits, report-turn, report-done, room-kept}
+use Rattle.report.proofs.Records.{Reporting, report-start, report-fits, report-turn, report-done}
+use Rattle.propagation.specs.Steps.{room-kept}
 use Rattle.report.proofs.archive.records_text.Statement.{statement}
 use Rattle.report.proofs.archive.records_text.Tie as tie
 
