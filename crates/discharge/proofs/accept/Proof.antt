@@ -1,3 +1,5 @@
+use Prim.Native.Nat.{_*_}
+use native.Mathlib.Omega.{arith}
 use mathlib.Core.Path.{_∙_, sym}
 use borrow.Author.Tests.{le-leb, lt-leb}
 use Rattle.validation.specs.Accepting.{accept-refused, accept-short, accept-valid}
@@ -21,7 +23,7 @@ mul-if1 : tie.Need-mul-if1
 mul-if1 c = search needs
 
 returns : tie.Need-returns
-returns c = accept-short _ _ _ (sym (c .before .before .before .before .before .check .ensures) ∙ c .before .before .before .checked2 .given .1) (lt-leb _ _ (c .if1 .taken))
+returns c = accept-short _ _ _ (sym (c .before .before .before .before .before .check .ensures) ∙ c .before .before .before .checked2 .given .1) (lt-leb (3 * c .before .before .before .checked2 .given .0 .0 .cycle) (c .before .before .before .before .before .before .before .args .room) (omega (arith, c .if1 .taken)))
 
 returns-2 : tie.Need-returns-2
 returns-2 c = accept-refused _ _ _ (sym (c .before .before .before .check .ensures) ∙ c .before .checked .given .1)

@@ -1,10 +1,11 @@
+use native.Mathlib.Omega.{arith}
 use Rattle.validation.proofs.Laws.{wrong-size, refuse-7, refuse-8, refuse-9, refuse-10, refuse-11, refuse-12, accept}
 use borrow.Author.Needs.{needs}
 use Rattle.validation.proofs.check.Statement.{statement}
 use Rattle.validation.proofs.check.Tie as tie
 
 returns : tie.Need-returns
-returns c = wrong-size _ (c .if1 .taken)
+returns c = wrong-size (c .before .before .args .bytes .now) (λ e. omega (arith, c .if1 .taken))
 
 segment-of-requires : tie.Need-segment-of-requires
 segment-of-requires c κs = search needs
