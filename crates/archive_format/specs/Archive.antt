@@ -1,11 +1,11 @@
 -- Archives of segment records: the bytes that hold a list of them, and what reading, finding and adding answer.
 -- Paper 01's words: an archive is a drawer, a segment record a card.
 use Prim.Native.Nat.{ℕ, zero, suc, _+_, _*_, _-_, _≤_}
-use mathlib.Core.Bool.{Bool, true, _&&_}
+use mathlib.Core.Bool.{Bool, true, _&&_, cond}
 use mathlib.Core.List.{List, [], _∷_, _++_}
 use lib.Dec.{leb, ltb, eqb}
 use lib.ListN.{length, take, drop, getD}
-use Rattle.refusal.specs.Refusal.{Or, refused, ok, need, andThen, pick}
+use Rattle.refusal.specs.Refusal.{Or, refused, ok, need, andThen}
 use Rattle.octets.specs.Octets.{word2, word4, bytes2}
 use Rattle.segment.specs.Layout as layout
 use Rattle.archive_format.specs.declared.Edition.{Edition}
@@ -136,7 +136,7 @@ placeOf e l i = andThen (decode e l) (λ fs. placeIn (e .size) 0 fs i)
 -- the place of the record with a number
 unfoldable pub findIn : ℕ → ℕ → List Filed → ℕ → Or ℕ
 findIn size p [] n = refused 6
-findIn size p (f ∷ fs) n = pick (eqb (numberOf f) n) (ok p) (findIn size (p + size + 1 + length (f .title)) fs n)
+findIn size p (f ∷ fs) n = cond (eqb (numberOf f) n) (ok p) (findIn size (p + size + 1 + length (f .title)) fs n)
 
 unfoldable pub findOf : Edition → List ℕ → ℕ → Or ℕ
 findOf e l n = andThen (decode e l) (λ fs. findIn (e .size) 0 fs n)

@@ -2,12 +2,12 @@
 use Prim.Native.Nat.{ℕ, zero, suc, _+_, _*_, _≤_, _<_}
 use native.Mathlib.Omega.{arith}
 use mathlib.Core.Path.{_≡_, refl, ap, _∙_}
-use mathlib.Core.Bool.{Bool, true, false}
+use mathlib.Core.Bool.{Bool, true, false, cond}
 use mathlib.Core.List.{List, [], _∷_, _++_}
 use lib.Dec.{eqb, ltb}
 use lib.ListN.{length, length-append}
 use borrow.Author.Tests.{eqb-true, ne-eqb, ltb-true}
-use Rattle.refusal.specs.Refusal.{Or, refused, ok, andThen, pick, both}
+use Rattle.refusal.specs.Refusal.{Or, refused, ok, andThen, both}
 use Rattle.octets.specs.Octets.{word2}
 use Rattle.archive_format.specs.declared.Edition.{Edition}
 use Rattle.archive_format.specs.Archive.{Filed, numberOf, body, rising, lastNumber, nextAt, filedAt, filedFrom, runs, countAt, trailerAt, decode, placeIn, findIn, findOf, titleOf}
@@ -17,7 +17,7 @@ use Rattle.archive_format.specs.Decoded.{Shaped}
 -- the record with a number, in a list
 unfoldable pub lookup : List Filed → ℕ → Or Filed
 lookup [] n = refused 6
-lookup (f ∷ fs) n = pick (eqb (numberOf f) n) (ok f) (lookup fs n)
+lookup (f ∷ fs) n = cond (eqb (numberOf f) n) (ok f) (lookup fs n)
 
 -- ---- a search in records that run: both absent, or the place holds the record
 
@@ -35,7 +35,7 @@ search-from size (suc k) l t at q n h r =
     rw (title-length size l at w) (go (eqb (numberOf (filedAt size l at)) n) (m .within) (search-from size k l t (nextAt size l at) (q + 2) n h (m .on)))
   where
     go : (b : Bool) → nextAt size l at ≤ t → Search size l t (findIn size (nextAt size l at) (filedFrom size k l (nextAt size l at)) n) (lookup (filedFrom size k l (nextAt size l at)) n)
-        → Search size l t (pick b (ok at) (findIn size (nextAt size l at) (filedFrom size k l (nextAt size l at)) n)) (pick b (ok (filedAt size l at)) (lookup (filedFrom size k l (nextAt size l at)) n))
+        → Search size l t (cond b (ok at) (findIn size (nextAt size l at) (filedFrom size k l (nextAt size l at)) n)) (cond b (ok (filedAt size l at)) (lookup (filedFrom size k l (nextAt size l at)) n))
     go true within ih = present at refl refl within
     go false within ih = ih
 
@@ -85,7 +85,7 @@ unfolding lookup
 lookup-number [] n g h = absurd (let z : _≡_ {A = ℕ} 0 1 = cc in omega arith)
 lookup-number (f ∷ fs) n g h = go (eqb (numberOf f) n) refl h (lookup-number fs n g)
   where
-    go : (b : Bool) → eqb (numberOf f) n ≡ b → pick b (ok f) (lookup fs n) ≡ ok g → (lookup fs n ≡ ok g → numberOf g ≡ n) → numberOf g ≡ n
+    go : (b : Bool) → eqb (numberOf f) n ≡ b → cond b (ok f) (lookup fs n) ≡ ok g → (lookup fs n ≡ ok g → numberOf g ≡ n) → numberOf g ≡ n
     go true e h ih = let z : f ≡ g = cc in rw (← z) (eqb-true _ _ e)
     go false e h ih = ih h
 
@@ -99,7 +99,7 @@ unfolding lookup
 lookup-more [] gs n g h = absurd (let z : _≡_ {A = ℕ} 0 1 = cc in omega arith)
 lookup-more (f ∷ fs) gs n g h = go (eqb (numberOf f) n) h (lookup-more fs gs n g)
   where
-    go : (b : Bool) → pick b (ok f) (lookup fs n) ≡ ok g → (lookup fs n ≡ ok g → lookup (fs ++ gs) n ≡ ok g) → pick b (ok f) (lookup (fs ++ gs) n) ≡ ok g
+    go : (b : Bool) → cond b (ok f) (lookup fs n) ≡ ok g → (lookup fs n ≡ ok g → lookup (fs ++ gs) n ≡ ok g) → cond b (ok f) (lookup (fs ++ gs) n) ≡ ok g
     go true h ih = h
     go false h ih = ih h
 
@@ -108,7 +108,7 @@ unfolding lookup
 lookup-after [] gs n m h = refl
 lookup-after (f ∷ fs) gs n m h = go (eqb (numberOf f) n) h (lookup-after fs gs n m)
   where
-    go : (b : Bool) → pick b (ok f) (lookup fs n) ≡ refused m → (lookup fs n ≡ refused m → lookup (fs ++ gs) n ≡ lookup gs n) → pick b (ok f) (lookup (fs ++ gs) n) ≡ lookup gs n
+    go : (b : Bool) → cond b (ok f) (lookup fs n) ≡ refused m → (lookup fs n ≡ refused m → lookup (fs ++ gs) n ≡ lookup gs n) → cond b (ok f) (lookup (fs ++ gs) n) ≡ lookup gs n
     go true h ih = absurd (let z : _≡_ {A = ℕ} 0 1 = cc in omega arith)
     go false h ih = ih h
 
@@ -117,9 +117,9 @@ unfolding findIn
 find-more size at [] gs n p h = absurd (let z : _≡_ {A = ℕ} 0 1 = cc in omega arith)
 find-more size at (f ∷ fs) gs n p h = go (eqb (numberOf f) n) h (find-more size (at + size + 1 + length (f .title)) fs gs n p)
   where
-    go : (b : Bool) → pick b (ok at) (findIn size (at + size + 1 + length (f .title)) fs n) ≡ ok p
+    go : (b : Bool) → cond b (ok at) (findIn size (at + size + 1 + length (f .title)) fs n) ≡ ok p
         → (findIn size (at + size + 1 + length (f .title)) fs n ≡ ok p → findIn size (at + size + 1 + length (f .title)) (fs ++ gs) n ≡ ok p)
-        → pick b (ok at) (findIn size (at + size + 1 + length (f .title)) (fs ++ gs) n) ≡ ok p
+        → cond b (ok at) (findIn size (at + size + 1 + length (f .title)) (fs ++ gs) n) ≡ ok p
     go true h ih = h
     go false h ih = ih h
 
@@ -132,10 +132,10 @@ find-after size at (f ∷ fs) gs n m s h = go (eqb (numberOf f) n) h (find-after
     next : at + size + 1 + length (f .title) + length (body fs) ≡ at + length (f .bytes ++ (length (f .title) ∷ (f .title ++ body fs)))
     next = simp length-append (omega (arith, s .0))
 
-    go : (b : Bool) → pick b (ok at) (findIn size (at + size + 1 + length (f .title)) fs n) ≡ refused m
+    go : (b : Bool) → cond b (ok at) (findIn size (at + size + 1 + length (f .title)) fs n) ≡ refused m
         → (findIn size (at + size + 1 + length (f .title)) fs n ≡ refused m → findIn size (at + size + 1 + length (f .title)) (fs ++ gs) n ≡ findIn size (at + size + 1 + length (f .title) + length (body fs)) gs n)
         → at + size + 1 + length (f .title) + length (body fs) ≡ at + length (f .bytes ++ (length (f .title) ∷ (f .title ++ body fs)))
-        → pick b (ok at) (findIn size (at + size + 1 + length (f .title)) (fs ++ gs) n) ≡ findIn size (at + length (f .bytes ++ (length (f .title) ∷ (f .title ++ body fs)))) gs n
+        → cond b (ok at) (findIn size (at + size + 1 + length (f .title)) (fs ++ gs) n) ≡ findIn size (at + length (f .bytes ++ (length (f .title) ∷ (f .title ++ body fs)))) gs n
     go true h ih z = absurd (let y : _≡_ {A = ℕ} 0 1 = cc in omega arith)
     go false h ih z = ih h ∙ ap (λ (y : ℕ). findIn size y gs n) z
 

@@ -4,13 +4,13 @@ use native.Mathlib.Nat.{sub-zero}
 use native.Mathlib.Numerals.{add-one}
 use native.Mathlib.Omega.{arith}
 use mathlib.Core.Path.{_≡_, refl, sym, _∙_}
-use mathlib.Core.Bool.{Bool, true, false, _&&_, and-assoc, and-true, and-false}
+use mathlib.Core.Bool.{Bool, true, false, _&&_, and-assoc, and-true, and-false, cond}
 use mathlib.Core.List.{List}
 use lib.Dec.{leb, ltb, eqb}
 use lib.ListN.{length, getD, take, drop}
 use lib.Seq.{drop-cons, drop-length}
 use borrow.Author.Tests.{leb-true, le-leb, lt-leb, eq-eqb, ne-eqb}
-use Rattle.refusal.specs.Refusal.{ok, need, pick, both}
+use Rattle.refusal.specs.Refusal.{ok, need, both}
 use Rattle.octets.specs.Octets.{word2, word4}
 use Rattle.archive_format.specs.declared.Edition.{Edition}
 use Rattle.archive_format.specs.declared.Answer.the-variants.{Is, Refused}
@@ -79,7 +79,7 @@ pub follows : (size : ℕ) (s : List ℕ) (t at : ℕ) {next : ℕ} → next ≡
 unfolding nextWithin
 follows size s t at {next} e f = go (Fits size s t at) refl e
   where
-    go : (b : Bool) → Fits size s t at ≡ b → next ≡ pick b (nextAt size s at) 0 → Follows size s t at next
+    go : (b : Bool) → Fits size s t at ≡ b → next ≡ cond b (nextAt size s at) 0 → Follows size s t at next
     go true b e = let a : (leb (getD s (at + size) 0) titleLimit ≡ true) × (leb (nextAt size s at) t ≡ true) = both _ _ b in record { same = e; short = leb-true _ _ (a .0); within = leb-true _ _ (a .1) }
     go false b e = absurd (f e)
 
@@ -87,7 +87,7 @@ unfit : (size : ℕ) (s : List ℕ) (t at : ℕ) {next : ℕ} → next ≡ nextW
 unfolding nextWithin
 unfit size s t at {next} e z = go (Fits size s t at) refl e
   where
-    go : (b : Bool) → Fits size s t at ≡ b → next ≡ pick b (nextAt size s at) 0 → Fits size s t at ≡ false
+    go : (b : Bool) → Fits size s t at ≡ b → next ≡ cond b (nextAt size s at) 0 → Fits size s t at ≡ false
     go true b e = absurd (omega arith)
     go false b e = b
 

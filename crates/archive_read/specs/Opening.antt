@@ -2,11 +2,11 @@
 use Prim.Native.Nat.{ℕ, _+_, _*_}
 use native.Mathlib.Omega.{arith}
 use mathlib.Core.Path.{_≡_, refl, sym, _∙_}
-use mathlib.Core.Bool.{Bool, true, _&&_}
+use mathlib.Core.Bool.{Bool, true, _&&_, cond}
 use mathlib.Core.List.{List}
 use lib.Dec.{leb}
 use lib.ListN.{length, getD}
-use Rattle.refusal.specs.Refusal.{Or, refused, ok, pick}
+use Rattle.refusal.specs.Refusal.{Or, refused, ok}
 use Rattle.archive_format.specs.declared.Edition.{Edition}
 use Rattle.archive_format.specs.Archive.{titleLimit, Filed, body, lastNumber, nextAt, filedFrom, runs, countAt, trailerAt, decode}
 use Rattle.archive_format.specs.Reading.{Reads, reads}
@@ -20,11 +20,11 @@ openedOf (ok fs) = Valid (length fs) (length (body fs)) (lastNumber 0 fs)
 
 -- what a pass over the records comes to, 3 before 4 before 5
 abbrev pub concluded : Bool → Bool → Bool → ℕ → ℕ → ℕ → Opened
-concluded run clean risen count t last = pick run (pick clean (pick risen (Valid count t last) (Invalid 5)) (Invalid 4)) (Invalid 3)
+concluded run clean risen count t last = cond run (cond clean (cond risen (Valid count t last) (Invalid 5)) (Invalid 4)) (Invalid 3)
 
 -- the place after a record that ends before the trailer, with a title that is not too long; else 0
 unfoldable pub nextWithin : ℕ → List ℕ → ℕ → ℕ → ℕ
-nextWithin size l t at = pick (leb (getD l (at + size) 0) titleLimit && leb (nextAt size l at) t) (nextAt size l at) 0
+nextWithin size l t at = cond (leb (getD l (at + size) 0) titleLimit && leb (nextAt size l at) t) (nextAt size l at) 0
 
 -- ---- refused
 

@@ -1,8 +1,8 @@
 -- The loop that adds a pair's arrivals to a run.
-use Prim.Native.Nat.{ℕ, zero, suc, _+_, _-_, _*_, _^_, _≤_, _<_}
+use Prim.Native.Nat.{ℕ, zero, suc, _+_, _-_, _^_, _≤_, _<_}
 use native.Mathlib.Omega.{arith}
 use native.Mathlib.Numerals.{add-one}
-use native.Mathlib.Nat.{mul-le-mul-left, le-pred-of-lt, le-refl}
+use native.Mathlib.Nat.{le-refl}
 use mathlib.Core.Path.{_≡_, refl, ap, sym, _∙_}
 use mathlib.Core.List.{List}
 use lib.ListN.{length, drop, set, getD, replicate, length-set, drop-of-length-le}

@@ -1,12 +1,12 @@
 -- What the answers in numbers mean: number and sum say the outcome, 0 is an accepted working, the part told of an archive is the title.
 use Prim.Native.Nat.{ℕ}
-use mathlib.Core.Bool.{Bool, true, false}
+use mathlib.Core.Bool.{Bool, true, false, cond}
 use mathlib.Core.Path.{_≡_, refl, sym, ap, subst, _∙_}
 use mathlib.Core.List.{List}
 use lib.Dec.{eqb}
 use lib.Ieee.{Float}
 use lib.ListN.{length, take, drop}
-use Rattle.refusal.specs.Refusal.{Or, refused, ok, pick}
+use Rattle.refusal.specs.Refusal.{Or, refused, ok}
 use Rattle.flows.specs.Flows.{zero64}
 use Rattle.segment.specs.declared.Segment.{Segment}
 use Rattle.segment.specs.Segment.{segmentOf}
@@ -26,8 +26,8 @@ pub told-outcome : (n : ℕ) (sum : Float) → outcomeOf (numberOf (outcomeOf n 
 told-outcome n sum = go (eqb n 0) refl (eqb n 15) refl
   where
     go : (a : Bool) → eqb n 0 ≡ a → (b : Bool) → eqb n 15 ≡ b
-        → outcomeOf (numberOf (pick a (Worked sum) (pick b (Unsettled sum) (Refused n)))) (sumOf (pick a (Worked sum) (pick b (Unsettled sum) (Refused n))))
-        ≡ pick a (Worked sum) (pick b (Unsettled sum) (Refused n))
+        → outcomeOf (numberOf (cond a (Worked sum) (cond b (Unsettled sum) (Refused n)))) (sumOf (cond a (Worked sum) (cond b (Unsettled sum) (Refused n))))
+        ≡ cond a (Worked sum) (cond b (Unsettled sum) (Refused n))
     go true ea b eb = refl
     go false ea true eb = refl
     go false ea false eb = rw (ea, eb)
@@ -46,8 +46,8 @@ unfolding workedOf
 shared-worked s t p = go (eqb (t .number) 0)
   where
     go : (b : Bool)
-        → numberOf (pick b (called (workedOf s t) (filledOf s (t .pairs) p)) (called (unworkedOf t) p) .answer .outcome) ≡ 0
-        → WorkedAt (pick b (called (workedOf s t) (filledOf s (t .pairs) p)) (called (unworkedOf t) p))
+        → numberOf (cond b (called (workedOf s t) (filledOf s (t .pairs) p)) (called (unworkedOf t) p) .answer .outcome) ≡ 0
+        → WorkedAt (cond b (called (workedOf s t) (filledOf s (t .pairs) p)) (called (unworkedOf t) p))
     go true e = record { sum = t .sum; is = refl }
     go false e = record { sum = t .sum; is = zero-is-worked (t .number) (t .sum) e }
 

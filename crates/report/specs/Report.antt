@@ -1,9 +1,10 @@
 -- The text that the program prints for an archive of segment records (paper 01: a drawer of cards).
+use mathlib.Core.Bool.{cond}
 use Prim.Native.Nat.{ℕ}
 use mathlib.Core.List.{List, [], _∷_, _++_}
 use lib.Dec.{ltb}
 use lib.ListN.{length, replicate}
-use Rattle.refusal.specs.Refusal.{Or, refused, ok, pick}
+use Rattle.refusal.specs.Refusal.{Or, refused, ok}
 use Rattle.octets.specs.Octets.{word4}
 use Rattle.segment.specs.Layout.{numberAt}
 use Rattle.segment.specs.Segment.{segmentOf}
@@ -40,4 +41,4 @@ inputLimit = 65536
 
 -- what the program prints: longer input is refused, whatever it holds
 unfoldable pub inputText : List ℕ → List ℕ
-inputText l = pick (ltb inputLimit (length l)) (archiveRefusedLine 2) (archiveText l)
+inputText l = cond (ltb inputLimit (length l)) (archiveRefusedLine 2) (archiveText l)

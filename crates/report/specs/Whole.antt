@@ -2,13 +2,13 @@
 use Prim.Native.Nat.{ℕ, _+_, _*_, _≤_}
 use native.Mathlib.Omega.{arith}
 use native.Mathlib.Nat.{mul-le-mul-right}
-use mathlib.Core.Bool.{Bool, true, false}
+use mathlib.Core.Bool.{Bool, true, false, cond}
 use mathlib.Core.Path.{_≡_, refl, sym}
 use mathlib.Core.List.{List, [], _∷_, _++_}
 use lib.Dec.{ltb}
 use lib.ListN.{length, take, drop, length-append}
 use lib.Seq.{take-at}
-use Rattle.refusal.specs.Refusal.{Or, refused, ok, pick}
+use Rattle.refusal.specs.Refusal.{Or, refused, ok}
 use Rattle.text.specs.Text.{Wrote}
 use Rattle.text.specs.Appending.{wrote-fits, wrote-within}
 use Rattle.archive_format.specs.Archive.{Filed, decode, segments}
@@ -40,7 +40,7 @@ pub input-text : (l : List ℕ) → length (inputText l) ≤ 239616
 unfolding inputText
 input-text l = go (ltb inputLimit (length l))
   where
-    go : (b : Bool) → length (pick b (archiveRefusedLine 2) (archiveText l)) ≤ 239616
+    go : (b : Bool) → length (cond b (archiveRefusedLine 2) (archiveText l)) ≤ 239616
     go true = omega (arith, archive-refused-line 2)
     go false = archive-text l
 

@@ -1,13 +1,13 @@
 -- What the working of a record answers does not depend on the profiles that it is lent, where they have room for every cycle.
 use Prim.Native.Nat.{ℕ, _*_, _≤_}
 use native.Mathlib.Omega.{arith}
-use mathlib.Core.Bool.{Bool, true, false}
+use mathlib.Core.Bool.{Bool, true, false, cond}
 use mathlib.Core.Path.{_≡_, refl}
 use mathlib.Core.List.{List}
 use lib.Dec.{eqb}
 use lib.ListN.{length, replicate, length-replicate}
 use borrow.Author.Tests.{le-leb}
-use Rattle.refusal.specs.Refusal.{Or, refused, ok, need, andThen, pick}
+use Rattle.refusal.specs.Refusal.{Or, refused, ok, need, andThen}
 use Rattle.segment.specs.declared.Segment.{Segment}
 use Rattle.validation.specs.Validation.{checkOf}
 use Rattle.validation.specs.Ranges.{accepted}
@@ -32,8 +32,8 @@ sharing-answer : (s : Segment) (t : Told) (p p′ : Profiles) → bySharing s t 
 sharing-answer s t p p′ = go (eqb (t .number) 0)
   where
     go : (b : Bool)
-        → pick b (called (workedOf s t) (filledOf s (t .pairs) p)) (called (unworkedOf t) p) .answer
-        ≡ pick b (called (workedOf s t) (filledOf s (t .pairs) p′)) (called (unworkedOf t) p′) .answer
+        → cond b (called (workedOf s t) (filledOf s (t .pairs) p)) (called (unworkedOf t) p) .answer
+        ≡ cond b (called (workedOf s t) (filledOf s (t .pairs) p′)) (called (unworkedOf t) p′) .answer
     go true = refl
     go false = refl
 

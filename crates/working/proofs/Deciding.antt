@@ -1,14 +1,14 @@
 -- The ways of the call, over plain variables; and demand 3 of every one that works.
 use Prim.Native.Nat.{ℕ, _*_}
 use native.Mathlib.Omega.{arith}
-use mathlib.Core.Bool.{Bool, true, false, _&&_}
+use mathlib.Core.Bool.{Bool, true, false, _&&_, cond}
 use mathlib.Core.Path.{_≡_, refl, ap, sym, subst, _∙_}
 use mathlib.Core.List.{List}
 use lib.Dec.{leb, eqb}
 use lib.Ieee.{Float}
 use lib.ListN.{length, drop}
 use borrow.Author.Tests.{leb-true, eqb-true, ne-eqb}
-use Rattle.refusal.specs.Refusal.{Or, refused, ok, pick, both}
+use Rattle.refusal.specs.Refusal.{Or, refused, ok, both}
 use Rattle.segment.specs.declared.Segment.{Segment}
 use Rattle.segment.specs.Segment.{segmentOf}
 use Rattle.validation.specs.declared.Checked.the-variants as checked
@@ -77,7 +77,7 @@ module _ (s : Segment) (p : Profiles) where
 
 -- ---- what the record decides
 
-never : (b : Bool) (y x : Float) (n : ℕ) → _≡_ {A = Outcome} (pick b (Unsettled y) (Refused n)) (Worked x) → ⊥
+never : (b : Bool) (y x : Float) (n : ℕ) → _≡_ {A = Outcome} (cond b (Unsettled y) (Refused n)) (Worked x) → ⊥
 never true y x n e = let z : _≡_ {A = ℕ} 0 1 = cc in omega arith
 never false y x n e = let z : _≡_ {A = ℕ} 0 1 = cc in omega arith
 
@@ -98,8 +98,8 @@ module _ (l : List ℕ) (p : Profiles) where
 
   -- demand 3 of whatever the call works
   worked-demand : (s : Segment) → accepts ≡ ok s → (t : Bool) → eqb (sharingOf s .number) 0 ≡ t → (w : Working) (p′ : Profiles) →
-      called w p′ ≡ pick t (called (workedOf s (sharingOf s)) (filledOf s (sharingOf s .pairs) p))
-      (called (refusedWith (pick t (Worked (sharingOf s .sum)) (pick (eqb (sharingOf s .number) 15) (Unsettled (sharingOf s .sum)) (Refused (sharingOf s .number))))) p) →
+      called w p′ ≡ cond t (called (workedOf s (sharingOf s)) (filledOf s (sharingOf s .pairs) p))
+      (called (refusedWith (cond t (Worked (sharingOf s .sum)) (cond (eqb (sharingOf s .number) 15) (Unsettled (sharingOf s .sum)) (Refused (sharingOf s .number))))) p) →
       (x : Float) → w .outcome ≡ Worked x → Demand3 (segmentOf l) (w .pairs .rows) (p′ .output)
   unfolding workedOf
   worked-demand s a true e w p′ q x o =

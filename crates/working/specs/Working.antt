@@ -1,13 +1,13 @@
 -- The working of a segment record over three lent profiles: what it answers and leaves in them, on every way.
 use Prim.Native.Nat.{ℕ, _*_}
-use mathlib.Core.Bool.{Bool, true, false, _&&_}
+use mathlib.Core.Bool.{Bool, true, false, _&&_, cond}
 use mathlib.Core.Path.{_≡_, refl, sym}
 use mathlib.Core.List.{List}
 use lib.Dec.{leb, eqb}
 use lib.Ieee.{Float}
 use lib.ListN.{length}
 use borrow.Author.Tests.{eqb-true}
-use Rattle.refusal.specs.Refusal.{Or, refused, ok, pick}
+use Rattle.refusal.specs.Refusal.{Or, refused, ok}
 use Rattle.lists.specs.Lists.{sum, tab}
 use Rattle.segment.specs.declared.Segment.{Segment}
 use Rattle.segment.specs.Segment.{segmentOf}
@@ -27,7 +27,7 @@ use Rattle.working.specs.declared.Working.{Working}
 
 -- the outcome's cases: the paper's number, 0 where it is worked; 0 and 15 tell the last sum
 abbrev pub outcomeOf : (number : ℕ) → (sum : Float) → Outcome
-outcomeOf number sum = pick (eqb number 0) (Worked sum) (pick (eqb number 15) (Unsettled sum) (Refused number))
+outcomeOf number sum = cond (eqb number 0) (Worked sum) (cond (eqb number 15) (Unsettled sum) (Refused number))
 
 abbrev pub numberOf : Outcome → ℕ
 numberOf (Worked sum) = 0
@@ -37,7 +37,7 @@ numberOf (Unsettled sum) = 15
 pub outcome-number : (number : ℕ) (sum : Float) → numberOf (outcomeOf number sum) ≡ number
 outcome-number number sum = go (eqb number 0) refl (eqb number 15) refl
   where
-    go : (a : Bool) → eqb number 0 ≡ a → (b : Bool) → eqb number 15 ≡ b → numberOf (pick a (Worked sum) (pick b (Unsettled sum) (Refused number))) ≡ number
+    go : (a : Bool) → eqb number 0 ≡ a → (b : Bool) → eqb number 15 ≡ b → numberOf (cond a (Worked sum) (cond b (Unsettled sum) (Refused number))) ≡ number
     go true ea b eb = sym (eqb-true number 0 ea)
     go false ea true eb = sym (eqb-true number 15 eb)
     go false ea false eb = refl
@@ -105,7 +105,7 @@ called w p = record { answer = w; after = p }
 
 abbrev pub bySharing : Segment → Told → Profiles → Called
 bySharing s t p =
-    pick (eqb (t .number) 0)
+    cond (eqb (t .number) 0)
     (called (workedOf s t) (filledOf s (t .pairs) p))
     (called (unworkedOf t) p)
 
