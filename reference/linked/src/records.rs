@@ -108,16 +108,15 @@ fn extreme(random: &mut Random, cycle: u32) -> Bytes {
 
 /// One or two fields out of range.
 fn faulty(random: &mut Random) -> Bytes {
-    let mut record = busy(CYCLE_LEAST);
+    let record = busy(CYCLE_LEAST);
     if random.one_in(2) {
         let all = faults(CYCLE_LEAST);
-        all[random.below(all.len() as u32) as usize].apply(&mut record);
-        return record;
+        return all[random.below(all.len() as u32) as usize].applied(record);
     }
     let pairs = fault_pairs(CYCLE_LEAST);
     let pair = &pairs[random.below(pairs.len() as u32) as usize];
-    pair.iter().for_each(|fault| fault.apply(&mut record));
-    record
+    pair.iter()
+        .fold(record, |record, fault| fault.applied(record))
 }
 
 /// One byte changed anywhere.
