@@ -34,6 +34,7 @@ runLimit = 4000000000
 -- ranges in which the sums of one run fit
 pub record PairRanges (v w t : ℕ) (arrived run : List ℕ) : Type 0 where
   pub long : length arrived ≡ length run
+  pub some : 0 < length run
   pub cycle : length run ≤ 240
   pub share : v ≤ w
   pub time : t < 1000
@@ -42,6 +43,7 @@ pub record PairRanges (v w t : ℕ) (arrived run : List ℕ) : Type 0 where
 
 -- and of the four
 pub record EntryRanges (w t : ℕ) (row arrived out : List ℕ) : Type 0 where
+  pub some : 0 < length arrived
   pub cycle : length arrived ≤ 240
   pub room : 4 * length arrived ≤ length out
   pub shares : (j : ℕ) → getD row j 0 ≤ w

@@ -3,7 +3,6 @@
 ghost use mathlib.Core.Path.{_≡_};
 ghost use Prim.Native.Nat.{_+_, _-_, _*_, _≤_, _<_};
 ghost use lib.ListN.{length};
-ghost use Rattle.signal.specs.Turn.{turn};
 ghost use Rattle.signal.specs.Landing.{added};
 ghost use Rattle.pair_parts.specs.PairParts.{partOf, restOf, pairArrivals};
 ghost use Rattle.arrivals.specs.Arrivals.{PairRanges, EntryRanges, begun, entryAdded};
@@ -27,15 +26,7 @@ fn part_of(arrival: u32, v: u32, w: u32, carry: u32) -> Part
     }
 }
 
-// Where in a run of c numbers a discharge step lands, t steps later.
-fn landing_index(c: u32, from: Step, t: u32) -> usize
-    requires { ⌜ (0 < c) × (c < 1000) × (0 < from .0) × (from .0 < 1000) × (t < 1000) ⌝ }
-    ensures { λ r. ⌜ r ≡ turn c (from .0 + t) - 1 ⌝ }
-{
-    signal::index(signal::later(c, from, t))
-}
-
-// One run: the parts of an entry's arrivals that go to its exit are added, remainder carried from step to step.
+// One run: the parts of an entry's arrivals that go to its exit are added where their steps land, remainder carried from step to step.
 fn add_pair(arrived: &[u32], v: u32, w: u32, t: u32, run: &mut [u32])
     requires { ⌜ PairRanges v w t (now arrived) (now run) ⌝ }
     ensures { λ _. ⌜ now (run .exit) ≡ added (length (now (run .entry))) t 1 (pairArrivals v w (now (arrived .entry))) (now (run .entry)) ⌝ }
@@ -44,13 +35,15 @@ fn add_pair(arrived: &[u32], v: u32, w: u32, t: u32, run: &mut [u32])
         return;
     }
     let c = run.len() as u32;
+    let mut lands = signal::later(c, Step(1), t);
     let mut carry: u32 = 0;
     let mut i: usize = 0;
     while i < arrived.len() {
         let piece = part_of(arrived[i], v, w, carry);
-        let at = landing_index(c, Step(i as u32 + 1), t);
+        let at = signal::index(lands);
         run[at] += piece.flow;
         carry = piece.carry;
+        lands = signal::next(c, lands);
         i += 1;
     }
 }

@@ -67,6 +67,7 @@ entry-asks {running} {c} {e} {row} {p} h eu eq =
       first = omega (arith, l, h .room .first);
       second = omega (arith, l, h .room .second);
       adds = record {
+        some = omega (arith, n, h .cycle);
         cycle = omega (arith, n, h .cycle);
         room = omega (arith, n, h .room .output);
         shares = h .shares;

@@ -1,15 +1,15 @@
 use Prim.Native.Nat.{_-_}
 use native.Mathlib.Omega.{arith}
 use lib.ListN.{length}
-use Rattle.arrivals.proofs.Pairs.{Adding, adding-start, place-lt, sum-fits, adding-turn, adding-done, adding-none}
+use Rattle.arrivals.proofs.Pairs.{Adding, adding-start, lands-pos, lands-le, place-lt, sum-fits, adding-turn, adding-done, adding-none}
 use Rattle.arrivals.proofs.add_pair.Statement.{statement}
 use Rattle.arrivals.proofs.add_pair.Tie as tie
 
 abbrev Inv-loop : tie.InvT-loop
-Inv-loop arrived v w t run₀ c carry₀ i₀ run carry i = Adding arrived v w t run₀ run carry i
+Inv-loop arrived v w t run₀ c lands₀ carry₀ i₀ run lands carry i = Adding arrived v w t run₀ run (lands .0) carry i
 
 abbrev μ-loop : tie.MeasureT-loop
-μ-loop arrived v w t run₀ c carry₀ i₀ run carry i = length arrived - i
+μ-loop arrived v w t run₀ c lands₀ carry₀ i₀ run lands carry i = length arrived - i
 
 returns : tie.Need-returns Inv-loop μ-loop
 returns c = adding-none _ _ _ _ _ (c .if1 .taken)
@@ -17,8 +17,11 @@ returns c = adding-none _ _ _ _ _ (c .if1 .taken)
 cast-c : tie.Need-cast-c Inv-loop μ-loop
 cast-c c = omega (arith, c .before .before .before .pre .cycle)
 
+later-requires : tie.Need-later-requires Inv-loop μ-loop
+later-requires c κs = let p = c .before .before .before .pre in omega (arith, p .some, p .cycle, p .time)
+
 loop-holds : tie.Need-loop-holds Inv-loop μ-loop
-loop-holds c = adding-start _ _ _ _ _ (c .if1 .left) (c .before .before .before .pre .share)
+loop-holds c = adding-start _ _ _ _ _ (c .before .if1 .left) (c .before .before .before .before .pre .share) (c .later .ensures)
 
 mul-part-of : tie.Need-mul-part-of Inv-loop μ-loop
 mul-part-of c = omega arith
@@ -27,28 +30,27 @@ shared-slice-read-part-of : tie.Need-shared-slice-read-part-of Inv-loop μ-loop
 shared-slice-read-part-of c = omega arith
 
 part-of-requires : tie.Need-part-of-requires Inv-loop μ-loop
-part-of-requires c κs = omega (arith, c .before .before .before .before .before .before .pre .share)
+part-of-requires c κs = omega (arith, c .before .before .before .before .before .before .before .pre .share)
 
-cast-run : tie.Need-cast-run Inv-loop μ-loop
-cast-run c = omega (arith, c .before .before .before .before .before .before .before .pre .cycle)
-
-add-run : tie.Need-add-run Inv-loop μ-loop
-add-run c = omega (arith, c .before .before .before .before .before .before .before .pre .cycle)
-
-landing-index-requires : tie.Need-landing-index-requires Inv-loop μ-loop
-landing-index-requires c κs = omega (arith, c .before .before .before .before .before .before .before .pre .cycle, c .before .before .before .before .before .before .before .pre .long, c .before .before .before .before .before .before .before .pre .time)
+index-requires : tie.Need-index-requires Inv-loop μ-loop
+index-requires c κs = lands-pos (c .before .before .before .loop .inv) (c .before .before .before .before .before .before .before .before .pre)
 
 mul-run : tie.Need-mul-run Inv-loop μ-loop
-mul-run c = omega (arith, place-lt (c .before .before .before .before .loop .inv) (c .before .before .before .before .before .before .before .before .pre) (omega arith) _ (c .landing-index .ensures))
+mul-run c = omega (arith, place-lt (c .before .before .before .before .loop .inv) (c .before .before .before .before .before .before .before .before .before .pre) (omega arith) _ (c .index .ensures))
 
 slice-read-run : tie.Need-slice-read-run Inv-loop μ-loop
-slice-read-run c = place-lt (c .before .before .before .before .before .loop .inv) (c .before .before .before .before .before .before .before .before .before .pre) (omega arith) _ (c .before .landing-index .ensures)
+slice-read-run c = place-lt (c .before .before .before .before .before .loop .inv) (c .before .before .before .before .before .before .before .before .before .before .pre) (omega arith) _ (c .before .index .ensures)
 
-add-run-2 : tie.Need-add-run-2 Inv-loop μ-loop
-add-run-2 c = record { fits = sum-fits (c .before .before .before .before .before .before .loop .inv) (c .before .before .before .before .before .before .before .before .before .before .pre) (omega arith) _ (c .before .before .landing-index .ensures) _ (c .before .before .before .part-of .ensures) }
+add-run : tie.Need-add-run Inv-loop μ-loop
+add-run c = record { fits = sum-fits (c .before .before .before .before .before .before .loop .inv) (c .before .before .before .before .before .before .before .before .before .before .before .pre) (omega arith) _ (c .before .before .index .ensures) _ (c .before .before .before .part-of .ensures) }
 
 slice-write-run : tie.Need-slice-write-run Inv-loop μ-loop
-slice-write-run c = place-lt (c .before .before .before .before .before .before .loop .inv) (c .before .before .before .before .before .before .before .before .before .before .pre) (omega arith) _ (c .before .before .landing-index .ensures)
+slice-write-run c = place-lt (c .before .before .before .before .before .before .loop .inv) (c .before .before .before .before .before .before .before .before .before .before .before .pre) (omega arith) _ (c .before .before .index .ensures)
+
+next-requires : tie.Need-next-requires Inv-loop μ-loop
+next-requires c κs = let r = c .before .before .before .before .before .before .loop .inv in
+    let p = c .before .before .before .before .before .before .before .before .before .before .before .pre in
+    omega (arith, lands-pos r p, lands-le r p, p .cycle)
 
 add-i : tie.Need-add-i Inv-loop μ-loop
 add-i c = omega arith
@@ -57,7 +59,7 @@ loop-less : tie.Need-loop-less Inv-loop μ-loop
 loop-less c = omega arith
 
 loop-again : tie.Need-loop-again Inv-loop μ-loop
-loop-again c = adding-turn (c .before .before .before .before .before .before .loop .inv) (c .before .before .before .before .before .before .before .before .before .before .pre) (omega arith) _ (c .before .before .landing-index .ensures) _ (c .before .before .before .part-of .ensures)
+loop-again c = adding-turn (c .before .before .before .before .before .before .before .loop .inv) (c .before .before .before .before .before .before .before .before .before .before .before .before .pre) (omega arith) _ (c .before .before .before .index .ensures) _ (c .before .before .before .before .part-of .ensures) (c .next .ensures)
 
 same-length : tie.Need-same-length Inv-loop μ-loop
 same-length c = c .before .loop .inv .long
@@ -73,17 +75,17 @@ add-pair-spec =
     μ-loop
     returns
     cast-c
+    later-requires
     loop-holds
     mul-part-of
     shared-slice-read-part-of
     part-of-requires
-    cast-run
-    add-run
-    landing-index-requires
+    index-requires
     mul-run
     slice-read-run
-    add-run-2
+    add-run
     slice-write-run
+    next-requires
     add-i
     loop-less
     loop-again
