@@ -18,8 +18,8 @@ use Rattle.archive_format.specs.Decoded.{Shaped, Fit, decoded-is-fit, body-laid
 use Rattle.archive_format.specs.Encoded.{length-places, length-encode}
 use Rattle.archive_format.specs.Sizes.{body-bound}
 use Rattle.archive_format.specs.Building.{body-append}
-use Rattle.archive_read.specs.declared.opening.Opened.the-variants.{Invalid}
-use Rattle.archive_read.specs.Opening.{openedOf, invalid, Held, held-run, held-fits}
+use Rattle.archive_open.specs.declared.Opened.the-variants.{Invalid}
+use Rattle.archive_open.specs.Opening.{openedOf, invalid, Held, held-run, held-fits}
 use Rattle.archive_add.specs.Writing.{putAt, Wrote, recordBytes, grown, Adds}
 use Rattle.archive_add.proofs.Parts.{record-length}
 

@@ -10,14 +10,13 @@ use archive_format::Edition;
 use archive_format::RECORD_LIMIT;
 use archive_format::SEGMENTS;
 use archive_format::TITLE_LIMIT;
-use archive_read::opening;
-use opening::Opened;
+use archive_open::Opened;
 
 // A title that is not too long, of bytes from 32 to 126.
 fn title_fits(title: &[u8]) -> bool
     ensures { λ r. ⌜ r ≡ titleFits (now (title .entry)) ⌝ }
 {
-    let clean = opening::printable(title);
+    let clean = archive_open::printable(title);
     (title.len() <= TITLE_LIMIT) & clean
 }
 
@@ -46,7 +45,7 @@ fn add_in(e: Edition, s: &[u8], segment: &[u8], title: &[u8], out: &mut [u8]) ->
     ensures { λ r. ⌜ Adds e (now (s .entry)) (now (segment .entry)) (now (title .entry)) (now (out .entry)) r (now (out .exit)) ⌝ }
 {
     let size = e.size;
-    let o = opening::open(e, s);
+    let o = archive_open::open(e, s);
     match o {
         Opened::Invalid(n) => {
             return Answer::Refused(n);

@@ -12,8 +12,8 @@ use Rattle.archive_format.specs.declared.Answer.the-variants.{Is, Refused}
 use Rattle.archive_format.specs.Archive.{filedFrom, nextAt, decode, answerOf, countOf, placeOf, findIn, findOf, titleOf}
 use Rattle.archive_format.specs.Reading.{filed-length}
 use Rattle.archive_format.specs.Finding.{find-within, place-at, place-beyond}
-use Rattle.archive_read.specs.declared.opening.Opened.the-variants.{Invalid}
-use Rattle.archive_read.specs.Opening.{openedOf, invalid, Held, held-run, held-fits, held-filed}
+use Rattle.archive_open.specs.declared.Opened.the-variants.{Invalid}
+use Rattle.archive_open.specs.Opening.{openedOf, invalid, Held, held-run, held-fits, held-filed}
 
 module _ (e : Edition) (l : List ℕ) where
   pub count-invalid : (n : ℕ) → openedOf (decode e l) ≡ Invalid n → Refused n ≡ answerOf (countOf e l)

@@ -1,7 +1,5 @@
 // Reading archives of segment records: how many, the place of each, finding by number, titles.
 // Each call says the paper's number of a refusal; none asks anything of its caller.
-pub mod opening;
-
 ghost use mathlib.Core.Path.{_≡_};
 ghost use mathlib.Core.Bool.{true};
 ghost use Prim.Native.Nat.{_≤_};
@@ -10,7 +8,7 @@ ghost use Rattle.archive_format.specs.Archive.{Sized, filedFrom, runs, findIn, 
 use archive_format::Answer;
 use archive_format::Edition;
 use archive_format::SEGMENTS;
-use opening::Opened;
+use archive_open::Opened;
 
 // The place of the record with a number, in an archive that was read.
 fn seek(size: usize, s: &[u8], count: usize, t: usize, number: u32) -> Answer
@@ -23,7 +21,7 @@ fn seek(size: usize, s: &[u8], count: usize, t: usize, number: u32) -> Answer
         if octets::word4_at(s, at) == number {
             return Answer::Is(at);
         }
-        at = at + size + 1 + opening::long(s[at + size]);
+        at = at + size + 1 + archive_open::long(s[at + size]);
         i += 1;
     }
     Answer::Refused(6)
@@ -33,7 +31,7 @@ fn count_in(e: Edition, s: &[u8]) -> Answer
     requires { ⌜ Sized (e .size) ⌝ }
     ensures { λ r. ⌜ r ≡ answerOf (countOf e (now (s .entry))) ⌝ }
 {
-    let o = opening::open(e, s);
+    let o = archive_open::open(e, s);
     match o {
         Opened::Invalid(n) => Answer::Refused(n),
         Opened::Valid {
@@ -48,7 +46,7 @@ fn place_in(e: Edition, s: &[u8], i: usize) -> Answer
     requires { ⌜ Sized (e .size) ⌝ }
     ensures { λ r. ⌜ r ≡ answerOf (placeOf e (now (s .entry)) i) ⌝ }
 {
-    let o = opening::open(e, s);
+    let o = archive_open::open(e, s);
     match o {
         Opened::Invalid(n) => Answer::Refused(n),
         Opened::Valid {
@@ -57,7 +55,7 @@ fn place_in(e: Edition, s: &[u8], i: usize) -> Answer
             last: _,
         } => {
             if i < count {
-                Answer::Is(opening::place_at(s, trailer + 2 * i))
+                Answer::Is(archive_open::place_at(s, trailer + 2 * i))
             } else {
                 Answer::Refused(6)
             }
@@ -69,7 +67,7 @@ fn find_in(e: Edition, s: &[u8], number: u32) -> Answer
     requires { ⌜ Sized (e .size) ⌝ }
     ensures { λ r. ⌜ r ≡ answerOf (findOf e (now (s .entry)) number) ⌝ }
 {
-    let o = opening::open(e, s);
+    let o = archive_open::open(e, s);
     match o {
         Opened::Invalid(n) => Answer::Refused(n),
         Opened::Valid {
@@ -88,7 +86,7 @@ fn title_in<'a>(e: Edition, s: &'a [u8], number: u32) -> &'a [u8]
     let f = find_in(e, s, number);
     match f {
         Answer::Is(at) => {
-            let n = opening::long(s[at + size]);
+            let n = archive_open::long(s[at + size]);
             &s[at + size + 1..at + size + 1 + n]
         }
         Answer::Refused(_) => &s[0..0],

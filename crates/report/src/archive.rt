@@ -10,8 +10,8 @@ ghost use Rattle.report.specs.Report.{archiveText, inputText, recordsTex
 ghost use Rattle.report.specs.Running.{Runs};
 use crate::INPUT_LIMIT;
 use archive_format::SEGMENTS;
-use archive_read::opening::Opened;
-use archive_read::opening::open;
+use archive_open::Opened;
+use archive_open::open;
 
 fn segment_text(
     text: &mut [u8],

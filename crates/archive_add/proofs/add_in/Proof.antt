@@ -7,7 +7,7 @@ use Rattle.octets.specs.Octets.{word4}
 use Rattle.archive_format.specs.Archive.{titleLimit, titleFits}
 use borrow.Author.Tests.{not-true, not-false}
 use borrow.Author.Needs.{needs}
-use Rattle.archive_read.specs.Opening.{Held, held, held-fits}
+use Rattle.archive_open.specs.Opening.{Held, held, held-fits}
 use Rattle.archive_add.proofs.Answers.{held-next, short-title, add-invalid, add-sized, add-untitled, add-low, add-narrow, add-full, add-done}
 use Rattle.archive_add.proofs.add_in.Statement.{statement}
 use Rattle.archive_add.proofs.add_in.Tie as tie

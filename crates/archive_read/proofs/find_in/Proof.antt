@@ -1,7 +1,7 @@
 use native.Mathlib.Omega.{arith}
 use mathlib.Core.Path.{sym, _∙_}
 use borrow.Author.Needs.{needs}
-use Rattle.archive_read.specs.Opening.{Held, held, held-fits, held-run}
+use Rattle.archive_open.specs.Opening.{Held, held, held-fits, held-run}
 use Rattle.archive_read.proofs.Answers.{find-invalid, find-valid}
 use Rattle.archive_read.proofs.find_in.Statement.{statement}
 use Rattle.archive_read.proofs.find_in.Tie as tie

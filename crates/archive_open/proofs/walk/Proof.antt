@@ -1,9 +1,9 @@
 use native.Mathlib.Omega.{arith}
 use mathlib.Core.Path.{_∙_, sym}
 use borrow.Author.Needs.{needs}
-use Rattle.archive_read.proofs.Loops.{Walking, walk-start, Follows, follows, walk-misplaced, walk-beyond, walk-on, walk-done}
-use Rattle.archive_read.proofs.opening.walk.Statement.{statement}
-use Rattle.archive_read.proofs.opening.walk.Tie as tie
+use Rattle.archive_open.proofs.Loops.{Walking, walk-start, Follows, follows, walk-misplaced, walk-beyond, walk-on, walk-done}
+use Rattle.archive_open.proofs.walk.Statement.{statement}
+use Rattle.archive_open.proofs.walk.Tie as tie
 
 abbrev Inv-loop : tie.InvT-loop
 Inv-loop size s count t left₀ at₀ q₀ last₀ titled₀ rising₀ left at q last titled rising = Walking size s count t left at q last titled rising

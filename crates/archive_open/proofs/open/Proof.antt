@@ -1,7 +1,7 @@
 use borrow.Author.Needs.{needs}
-use Rattle.archive_read.proofs.Loops.{end-short, end-first, end-second, end-many, end-off, end-on}
-use Rattle.archive_read.proofs.opening.open.Statement.{statement}
-use Rattle.archive_read.proofs.opening.open.Tie as tie
+use Rattle.archive_open.proofs.Loops.{end-short, end-first, end-second, end-many, end-off, end-on}
+use Rattle.archive_open.proofs.open.Statement.{statement}
+use Rattle.archive_open.proofs.open.Tie as tie
 
 returns : tie.Need-returns
 returns c = end-short _ _ (search needs)
