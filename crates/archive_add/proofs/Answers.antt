@@ -20,8 +20,8 @@ use Rattle.archive_format.specs.Sizes.{body-bound}
 use Rattle.archive_format.specs.Building.{body-append}
 use Rattle.archive_open.specs.declared.Opened.the-variants.{Invalid}
 use Rattle.archive_open.specs.Opening.{openedOf, invalid, Held, held-run, held-fits}
-use Rattle.archive_add.specs.Writing.{putAt, Wrote, recordBytes, grown, Adds}
-use Rattle.archive_add.proofs.Parts.{record-length}
+use Rattle.archive_write.specs.Writing.{putAt, Wrote, recordBytes, grown, record-length}
+use Rattle.archive_add.specs.Adds.{Adds}
 
 -- ---- the encoding of one record more
 

@@ -1,10 +1,8 @@
 // Adding a record to an archive: the old archive and one record more are written to a second buffer.
-mod writing;
-
 ghost use mathlib.Core.Path.{_≡_};
 ghost use lib.ListN.{length};
 ghost use Rattle.archive_format.specs.Archive.{Sized, titleFits, addOf, newLength, overwrite, segments};
-ghost use Rattle.archive_add.specs.Writing.{Wrote, grown, Fits, Adds};
+ghost use Rattle.archive_add.specs.Adds.{Adds};
 use archive_format::Answer;
 use archive_format::Edition;
 use archive_format::RECORD_LIMIT;
@@ -18,26 +16,6 @@ fn title_fits(title: &[u8]) -> bool
 {
     let clean = archive_open::printable(title);
     (title.len() <= TITLE_LIMIT) & clean
-}
-
-// Writes an archive that was read, with one record more: the old records, the new one, the old places, the new one's, the end.
-fn grow(
-    e: Edition,
-    s: &[u8],
-    count: usize,
-    t: usize,
-    segment: &[u8],
-    title: &[u8],
-    out: &mut [u8],
-) -> usize
-    requires { ⌜ Fits count t (length (now s)) (length (now segment)) (length (now title)) (length (now out)) ⌝ }
-    ensures { λ r. ⌜ Wrote (now (out .entry)) 0 (grown e (now (s .entry)) count t (now (segment .entry)) (now (title .entry))) (now (out .exit)) r ⌝ }
-{
-    let a = writing::put(out, 0, &s[0..t]);
-    let next = writing::put_record(out, a, segment, title);
-    let b = writing::put(out, next, &s[t..t + 2 * count]);
-    let c = writing::put_place(out, b, t);
-    writing::put_end(e, out, c, count + 1, next)
 }
 
 fn add_in(e: Edition, s: &[u8], segment: &[u8], title: &[u8], out: &mut [u8]) -> Answer
@@ -73,7 +51,7 @@ fn add_in(e: Edition, s: &[u8], segment: &[u8], title: &[u8], out: &mut [u8]) ->
             if RECORD_LIMIT <= count {
                 return Answer::Refused(18);
             }
-            let n = grow(e, s, count, trailer, segment, title, out);
+            let n = archive_write::grow(e, s, count, trailer, segment, title, out);
             return Answer::Is(n);
         }
     }

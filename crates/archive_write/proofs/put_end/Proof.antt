@@ -1,7 +1,7 @@
 use borrow.Author.Needs.{needs}
-use Rattle.archive_add.proofs.Parts.{end-put}
-use Rattle.archive_add.proofs.writing.put_end.Statement.{statement}
-use Rattle.archive_add.proofs.writing.put_end.Tie as tie
+use Rattle.archive_write.proofs.Parts.{end-put}
+use Rattle.archive_write.proofs.put_end.Statement.{statement}
+use Rattle.archive_write.proofs.put_end.Tie as tie
 
 low-requires : tie.Need-low-requires
 low-requires c κs = search needs

@@ -1,12 +1,12 @@
 -- Bytes written into a buffer, and the parts of an archive as they are written.
 use Prim.Native.Nat.{ℕ, _+_, _*_, _≤_, _<_}
+use native.Mathlib.Omega.{arith}
 use mathlib.Core.Path.{_≡_}
 use mathlib.Core.List.{List, [], _∷_, _++_}
-use lib.ListN.{length, take, drop}
+use lib.ListN.{length, take, drop, length-append}
 use Rattle.octets.specs.Octets.{bytes2}
 use Rattle.archive_format.specs.declared.Edition.{Edition}
-use Rattle.archive_format.specs.declared.Answer.{Answer}
-use Rattle.archive_format.specs.Archive.{recordLimit, addOf, newLength, overwrite}
+use Rattle.archive_format.specs.Archive.{recordLimit}
 
 -- a buffer with other bytes from a place on
 unfoldable pub putAt : List ℕ → ℕ → List ℕ → List ℕ
@@ -19,6 +19,9 @@ pub record Wrote (d : List ℕ) (at : ℕ) (s out : List ℕ) (next : ℕ) : Typ
 
 abbrev pub recordBytes : List ℕ → List ℕ → List ℕ
 recordBytes b t = b ++ (length t ∷ t)
+
+pub record-length : (b ti : List ℕ) → length (recordBytes b ti) ≡ length b + 1 + length ti
+record-length b ti = simp length-append (omega arith)
 
 abbrev pub endBytes : Edition → ℕ → ℕ → List ℕ
 endBytes e count trailer = bytes2 count ++ (bytes2 trailer ++ (e .first ∷ e .second ∷ []))
@@ -35,8 +38,3 @@ pub record Fits (count t old segment title room : ℕ) : Type 0 where
   pub placed : t + segment + 1 + title < 65536
   pub held : t + 2 * count ≤ old
   pub enough : t + segment + 1 + title + 2 * count + 8 ≤ room
-
--- adding's answer, and the buffer afterwards
-pub record Adds (e : Edition) (l b t out : List ℕ) (r : Answer) (out′ : List ℕ) : Type 0 where
-  pub answer : r ≡ newLength (addOf e l b t (length out))
-  pub buffer : out′ ≡ overwrite (addOf e l b t (length out)) out

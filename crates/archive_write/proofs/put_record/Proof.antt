@@ -1,7 +1,7 @@
 use borrow.Author.Needs.{needs}
-use Rattle.archive_add.proofs.Parts.{record-put}
-use Rattle.archive_add.proofs.writing.put_record.Statement.{statement}
-use Rattle.archive_add.proofs.writing.put_record.Tie as tie
+use Rattle.archive_write.proofs.Parts.{record-put}
+use Rattle.archive_write.proofs.put_record.Statement.{statement}
+use Rattle.archive_write.proofs.put_record.Tie as tie
 
 put-requires : tie.Need-put-requires
 put-requires c κs = search needs

@@ -3,9 +3,10 @@ use native.Mathlib.Omega.{arith}
 use mathlib.Core.Path.{_∙_}
 use lib.ListN.{length}
 use borrow.Author.Needs.{needs}
-use Rattle.archive_add.proofs.Parts.{Cut, Reached, record-length, part-length, whole-put}
-use Rattle.archive_add.proofs.grow.Statement.{statement}
-use Rattle.archive_add.proofs.grow.Tie as tie
+use Rattle.archive_write.proofs.Parts.{Cut, Reached, part-length, whole-put}
+use Rattle.archive_write.specs.Writing.{record-length}
+use Rattle.archive_write.proofs.grow.Statement.{statement}
+use Rattle.archive_write.proofs.grow.Tie as tie
 
 abbrev start : tie.After-put-record → tie.Start
 start c = c .before .before .before .before .before .before .before .before .before .before .before

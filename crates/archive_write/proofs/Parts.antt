@@ -7,13 +7,10 @@ use mathlib.Core.List.{List, [], _∷_, _++_, append-assoc}
 use lib.ListN.{length, take, drop, length-append, length-take, length-drop}
 use Rattle.octets.specs.Octets.{bytes2}
 use Rattle.archive_format.specs.declared.Edition.{Edition}
-use Rattle.archive_add.specs.Writing.{Wrote, recordBytes, endBytes, grown}
-use Rattle.archive_add.proofs.Puts.{put-on}
+use Rattle.archive_write.specs.Writing.{Wrote, recordBytes, record-length, endBytes, grown}
+use Rattle.archive_write.proofs.Puts.{put-on}
 
 -- ---- a record with its title, in three runs
-
-pub record-length : (b ti : List ℕ) → length (recordBytes b ti) ≡ length b + 1 + length ti
-record-length b ti = simp length-append (omega arith)
 
 pub record-put : (b ti : List ℕ) {d : List ℕ} {at : ℕ} {o1 : List ℕ} {a1 : ℕ} (n : ℕ) {o2 : List ℕ} {a2 : ℕ} {o3 : List ℕ} {a3 : ℕ}
     → length ti < 256 → at + length b + 1 + length ti ≤ length d

@@ -1,10 +1,10 @@
-// Writing bytes into a lent buffer, each function from a place on; it returns the place after them.
-// A lower layer's functions: each asks of its caller that the bytes fit.
+// Writing an archive with one record more into a lent buffer, part by part from a place on; each part returns the place after it.
+// A lower layer's function: `grow` asks of its caller that the bytes fit.
 ghost use mathlib.Core.Path.{_≡_};
 ghost use Prim.Native.Nat.{_+_, _/_, _%_, _≤_, _<_};
 ghost use lib.ListN.{length};
 ghost use Rattle.octets.specs.Octets.{bytes2};
-ghost use Rattle.archive_add.specs.Writing.{Wrote, recordBytes, endBytes};
+ghost use Rattle.archive_write.specs.Writing.{Wrote, recordBytes, endBytes, grown, Fits};
 use archive_format::Edition;
 
 fn low(x: usize) -> u8
@@ -20,7 +20,7 @@ fn high(x: usize) -> u8
     (x / 256) as u8
 }
 
-pub(crate) fn put(out: &mut [u8], at: usize, s: &[u8]) -> usize
+fn put(out: &mut [u8], at: usize, s: &[u8]) -> usize
     requires { ⌜ at + length (now s) ≤ length (now out) ⌝ }
     ensures { λ r. ⌜ Wrote (now (out .entry)) at (now (s .entry)) (now (out .exit)) r ⌝ }
 {
@@ -33,7 +33,7 @@ pub(crate) fn put(out: &mut [u8], at: usize, s: &[u8]) -> usize
 }
 
 // A record, its title's length and its title.
-pub(crate) fn put_record(out: &mut [u8], at: usize, segment: &[u8], title: &[u8]) -> usize
+fn put_record(out: &mut [u8], at: usize, segment: &[u8], title: &[u8]) -> usize
     requires { ⌜ (length (now title) < 256) × (at + length (now segment) + 1 + length (now title) ≤ length (now out)) ⌝ }
     ensures { λ r. ⌜ Wrote (now (out .entry)) at (recordBytes (now (segment .entry)) (now (title .entry))) (now (out .exit)) r ⌝ }
 {
@@ -44,7 +44,7 @@ pub(crate) fn put_record(out: &mut [u8], at: usize, segment: &[u8], title: &[u8]
 }
 
 // A place, in two bytes.
-pub(crate) fn put_place(out: &mut [u8], at: usize, place: usize) -> usize
+fn put_place(out: &mut [u8], at: usize, place: usize) -> usize
     requires { ⌜ (place < 65536) × (at + 2 ≤ length (now out)) ⌝ }
     ensures { λ r. ⌜ Wrote (now (out .entry)) at (bytes2 place) (now (out .exit)) r ⌝ }
 {
@@ -55,7 +55,7 @@ pub(crate) fn put_place(out: &mut [u8], at: usize, place: usize) -> usize
 }
 
 // What ends a trailer after its places: the count, the trailer's own place, the mark.
-pub(crate) fn put_end(e: Edition, out: &mut [u8], at: usize, count: usize, trailer: usize) -> usize
+fn put_end(e: Edition, out: &mut [u8], at: usize, count: usize, trailer: usize) -> usize
     requires { ⌜ (count < 65536) × (trailer < 65536) × (at + 6 ≤ length (now out)) ⌝ }
     ensures { λ r. ⌜ Wrote (now (out .entry)) at (endBytes e count trailer) (now (out .exit)) r ⌝ }
 {
@@ -65,4 +65,24 @@ pub(crate) fn put_end(e: Edition, out: &mut [u8], at: usize, count: usize, trail
     let hi = high(trailer);
     let six = [count_lo, count_hi, lo, hi, e.first, e.second];
     put(out, at, &six)
+}
+
+// Writes an archive that was read, with one record more: the old records, the new one, the old places, the new one's, the end.
+pub fn grow(
+    e: Edition,
+    s: &[u8],
+    count: usize,
+    t: usize,
+    segment: &[u8],
+    title: &[u8],
+    out: &mut [u8],
+) -> usize
+    requires { ⌜ Fits count t (length (now s)) (length (now segment)) (length (now title)) (length (now out)) ⌝ }
+    ensures { λ r. ⌜ Wrote (now (out .entry)) 0 (grown e (now (s .entry)) count t (now (segment .entry)) (now (title .entry))) (now (out .exit)) r ⌝ }
+{
+    let a = put(out, 0, &s[0..t]);
+    let next = put_record(out, a, segment, title);
+    let b = put(out, next, &s[t..t + 2 * count]);
+    let c = put_place(out, b, t);
+    put_end(e, out, c, count + 1, next)
 }

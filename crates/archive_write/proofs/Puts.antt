@@ -6,7 +6,7 @@ use mathlib.Core.Path.{_≡_, refl, sym, ap, _∙_}
 use mathlib.Core.List.{List, _++_, append-assoc}
 use lib.ListN.{length, getD, take, drop, set, length-append, length-set, length-take}
 use lib.Seq.{paste, paste-zero, paste-suc, take-length, take-at, drop-at, drop-drop}
-use Rattle.archive_add.specs.Writing.{putAt, Wrote}
+use Rattle.archive_write.specs.Writing.{putAt, Wrote}
 
 -- ---- one run
 
