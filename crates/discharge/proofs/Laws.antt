@@ -13,7 +13,7 @@ use Rattle.segment.specs.declared.Segment.{Segment}
 use Rattle.validation.specs.declared.Checked.the-variants.{Refused, Valid}
 use Rattle.validation.specs.Validation.{checkedOf}
 use Rattle.validation.specs.Accepting.{checked-refused, checked-valid, accept-passed}
-use Rattle.validation.specs.Ranges.{Ranges}
+use Rattle.ranges.specs.Ranges.{Ranges}
 use Rattle.discharge.specs.declared.Discharged.{Discharged}
 use Rattle.discharge.specs.declared.Discharged.the-variants as d
 use Rattle.entries.specs.Entries.{entryProfile}

@@ -6,7 +6,7 @@ use Rattle.refusal.specs.Refusal.{ok}
 use Rattle.lists.specs.Lists.{sum}
 use Rattle.segment.specs.declared.Segment.{Segment}
 use Rattle.validation.specs.Validation.{checkOf}
-use Rattle.validation.specs.Ranges.{accepted}
+use Rattle.validation.specs.Accepted.{accepted}
 use Rattle.metering.specs.Metering.{discharged}
 use Rattle.platoon.specs.Discharge.{carried}
 use Rattle.entries.specs.Entries.{entryProfile}

@@ -3,7 +3,7 @@ ghost use mathlib.Core.Path.{_≡_};
 ghost use Prim.Native.Nat.{_*_, _≤_};
 ghost use lib.ListN.{length};
 ghost use Rattle.refusal.specs.Refusal.{ok};
-ghost use Rattle.validation.specs.Ranges.{Ranges};
+ghost use Rattle.ranges.specs.Ranges.{Ranges};
 ghost use Rattle.validation.specs.Validation.{checkedOf};
 ghost use Rattle.discharge.specs.Discharge.{Calls, acceptOf, answerOf, written};
 use segment::Segment;

@@ -7,8 +7,8 @@ use Rattle.lists.specs.Lists.{sum, tab-length}
 use Rattle.movements.specs.Movements.{entryLimit, flowLimit, flowUnits}
 use Rattle.signal.specs.Landing.{landed}
 use Rattle.segment.specs.declared.Entry.{Entry}
-use Rattle.validation.specs.Validation.{leastCycle}
-use Rattle.validation.specs.Ranges.{EntryRanges}
+use Rattle.ranges.specs.Tests.{leastCycle}
+use Rattle.ranges.specs.Ranges.{EntryRanges}
 use Rattle.metering.specs.Metering.{discharged, discharged-served, discharged-volume}
 use Rattle.platoon.specs.Discharge.{carried, profileOf}
 use Rattle.platoon.specs.Conserved.{profile-sum, profile-le}

@@ -2,8 +2,8 @@
 ghost use mathlib.Core.Path.{_≡_};
 ghost use Prim.Native.Nat.{_≤_};
 ghost use lib.ListN.{length};
-ghost use Rattle.validation.specs.Validation.{leastCycle, mostCycle};
-ghost use Rattle.validation.specs.Ranges.{EntryRanges};
+ghost use Rattle.ranges.specs.Tests.{leastCycle, mostCycle};
+ghost use Rattle.ranges.specs.Ranges.{EntryRanges};
 ghost use Rattle.metering.specs.Metering.{discharged as dischargedOf};
 ghost use Rattle.entries.specs.Entries.{entryProfile};
 use segment::Entry;

@@ -2,7 +2,7 @@
 use archive_format::Answer;
 use discharge::Discharged;
 use libc::STDOUT_FILENO;
-use working::Outcome;
+use outcome::Outcome;
 
 // The paper's record 1: cycle 60, running time 40000 ms, headway 4100 ms, 360 veh/h in by access and out through.
 fn record() -> [u8; 68] {

@@ -8,10 +8,11 @@ use Rattle.flows.specs.Flows.{zero64}
 use Rattle.segment.specs.Segment.{segmentOf}
 use Rattle.propagation.specs.Propagation.{Profiles}
 use Rattle.demand3.specs.Demand3.{Demand3}
-use Rattle.working.specs.declared.Outcome.{Outcome}
-use Rattle.working.specs.declared.Outcome.the-variants.{Worked, Refused as RefusedWork, Unsettled}
-use Rattle.working.specs.declared.Working.{Working}
-use Rattle.working.specs.Working.{numberOf, callOf}
+use Rattle.outcome.specs.declared.Outcome.{Outcome}
+use Rattle.outcome.specs.declared.Outcome.the-variants.{Worked, Refused as RefusedWork, Unsettled}
+use Rattle.outcome.specs.declared.Working.{Working}
+use Rattle.outcome.specs.Outcome.{numberOf}
+use Rattle.working.specs.Working.{callOf}
 use Rattle.discharge.specs.declared.Discharged.{Discharged}
 use Rattle.discharge.specs.declared.Discharged.the-variants.{Refused as RefusedVolumes, Volumes}
 use Rattle.archive_format.specs.declared.Answer.{Answer}

@@ -13,9 +13,10 @@ use Rattle.segment.specs.Segment.{segmentOf}
 use Rattle.shares.specs.Sharing.{Told}
 use Rattle.propagation.specs.Propagation.{Profiles, filledOf}
 use Rattle.demand3.specs.Demand3.{Demand3}
-use Rattle.working.specs.declared.Outcome.the-variants.{Worked, Refused, Unsettled}
-use Rattle.working.specs.declared.Working.{Working}
-use Rattle.working.specs.Working.{Called, called, Works, acceptOf, callOf, byRecord, bySharing, numberOf, outcomeOf, outcome-number, sharingOf, unworkedOf, workedOf}
+use Rattle.outcome.specs.declared.Outcome.the-variants.{Worked, Refused, Unsettled}
+use Rattle.outcome.specs.declared.Working.{Working}
+use Rattle.outcome.specs.Outcome.{numberOf, outcomeOf, outcome-number, workedOf}
+use Rattle.working.specs.Working.{Called, called, Works, acceptOf, callOf, byRecord, bySharing, sharingOf, unworkedOf}
 use Rattle.archive_format.specs.Archive.{answerOf, findOf, segments, titleAt, titleOf}
 use Rattle.exports.specs.declared.WorkTold.{WorkTold}
 use Rattle.exports.specs.declared.TitleTold.{TitleTold}

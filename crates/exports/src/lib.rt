@@ -3,7 +3,7 @@
 ghost use mathlib.Core.Path.{_≡_};
 ghost use lib.ListN.{length};
 ghost use Rattle.propagation.specs.Propagation.{profiles};
-ghost use Rattle.working.specs.Working.{numberOf};
+ghost use Rattle.outcome.specs.Outcome.{numberOf};
 ghost use Rattle.discharge.specs.Discharge.{acceptOf, profileAfter};
 ghost use Rattle.discharge.specs.Discharge.{answerOf as volumesAnswer};
 ghost use Rattle.archive_format.specs.Archive.{addOf, answerOf, countOf, findOf, newLength, overwrite, placeOf, segments};
@@ -13,9 +13,9 @@ ghost use Rattle.exports.specs.Exports.{WorksTold, sumOf, toldOf, volume
 use archive_format::Answer;
 use discharge::Discharged;
 use exit_figures::ExitFigures;
+use outcome::Outcome;
+use outcome::Working;
 use pair_flows::PairFlows;
-use working::Outcome;
-use working::Working;
 
 // A working's answer: 0 and 15 tell the last sum.
 #[repr(C)]

@@ -13,7 +13,8 @@ use Rattle.signal.specs.Greens.{greenStep, greenSteps}
 use Rattle.signal.specs.Landing.{landing, landed}
 use Rattle.segment.specs.Layout.{greenOf, greensOf, entryOf, volumesOf, rowOf, tableOf}
 use Rattle.segment.specs.Segment.{zeroSeeds, seedsOf, segmentOf}
-use Rattle.validation.specs.Validation.{cycleFits, runningFits, headwayFits, volumesFit, greensFit, seedsAdd, checkOf}
+use Rattle.ranges.specs.Tests.{cycleFits, runningFits, headwayFits, volumesFit, greensFit, seedsAdd}
+use Rattle.validation.specs.Validation.{checkOf}
 use Rattle.metering.specs.Metering.{capacity, discharged}
 use Rattle.platoon.specs.Discharge.{carried, onGreen, received, servedOf, served, queueOf, greenFlows, profileOf}
 use Rattle.entries.specs.Entries.{entryProfile}

@@ -8,8 +8,7 @@ use lib.Seq.{drop-at}
 use Rattle.movements.specs.Movements.{flowUnits}
 use Rattle.segment.specs.declared.Entry.{Entry}
 use Rattle.segment.specs.declared.Segment.{Segment}
-use Rattle.validation.specs.Ranges.{Ranges}
-use Rattle.validation.specs.Ranges as validation
+use Rattle.ranges.specs.Ranges.{Ranges, EntryRanges}
 use Rattle.metering.specs.Metering.{discharged}
 use Rattle.entries.specs.Entries.{entryProfile}
 use Rattle.entries.specs.Laws.{entry-length, entry-le}
@@ -40,7 +39,7 @@ fill-begin {s} {rows} {o} h e n =
     }
 
 module _ {s : Segment} {p₀ p : Profiles} {b : ℕ} {r : ℕ → ℕ → ℕ} (h : Filling s p₀ p b r) (ranges : Ranges s) where
-  pub fill-asks : b ≤ runLimit → {e : Entry} (row : List ℕ) → validation.EntryRanges (s .cycle) e →
+  pub fill-asks : b ≤ runLimit → {e : Entry} (row : List ℕ) → EntryRanges (s .cycle) e →
       ((j : ℕ) → getD row j 0 ≤ flowUnits (discharged (s .cycle) e)) → EntryAsks (s .running) (s .cycle) e row p
   fill-asks hb row er shares =
       record {
@@ -54,7 +53,7 @@ module _ {s : Segment} {p₀ p : Profiles} {b : ℕ} {r : ℕ → ℕ → ℕ} (
       }
 
   -- one entry more: to each number what lands there is added
-  pub fill-entry : {e : Entry} (row : List ℕ) → validation.EntryRanges (s .cycle) e → length row ≡ 4 →
+  pub fill-entry : {e : Entry} (row : List ℕ) → EntryRanges (s .cycle) e → length row ≡ 4 →
       ((j : ℕ) → getD row j 0 ≤ flowUnits (discharged (s .cycle) e)) → {p′ : Profiles} → p′ ≡ entryStep (s .running) (s .cycle) e row p →
       Room (s .cycle) p′ → Filling s p₀ p′ (b + arrivalLimit) (λ j k. r j k + landsIn s e (getD row j 0) k)
   unfolding entryStep spreadStep landsIn pairOf entryArrivals
@@ -81,7 +80,7 @@ module _ {s : Segment} {p₀ p : Profiles} {b : ℕ} {r : ℕ → ℕ → ℕ} (
       }
 
 module _ {s : Segment} {p₀ : Profiles} {o f g : List ℕ} {b : ℕ} (ranges : Ranges s) where
-  pub then-entry : {r : ℕ → ℕ → ℕ} → Filling s p₀ (profiles o f g) b r → {e : Entry} (row : List ℕ) → validation.EntryRanges (s .cycle) e → length row ≡ 4 →
+  pub then-entry : {r : ℕ → ℕ → ℕ} → Filling s p₀ (profiles o f g) b r → {e : Entry} (row : List ℕ) → EntryRanges (s .cycle) e → length row ≡ 4 →
       ((j : ℕ) → getD row j 0 ≤ flowUnits (discharged (s .cycle) e)) → {o′ f′ g′ : List ℕ} →
       profiles o′ f′ g′ ≡ entryStep (s .running) (s .cycle) e row (profiles o f g) →
       length o′ ≡ length o → length f′ ≡ length f → length g′ ≡ length g →

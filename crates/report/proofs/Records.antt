@@ -13,13 +13,14 @@ use Rattle.segment.specs.Layout.{size, cycleAt}
 use Rattle.segment.specs.Segment.{segmentOf}
 use Rattle.propagation.specs.Propagation.{Profiles}
 use Rattle.propagation.specs.Steps.{Room}
-use Rattle.working.specs.declared.Working.{Working}
+use Rattle.outcome.specs.declared.Working.{Working}
 use Rattle.working.specs.Working.{Called, Works, callOf}
 use Rattle.archive_format.specs.Archive.{decode, segments, nextAt, filedFrom, runs}
 use Rattle.archive_format.specs.Reading.{Ran, ran}
 use Rattle.archive_open.specs.declared.Opened.the-variants.{Invalid, Valid}
 use Rattle.archive_open.specs.Opening.{openedOf, invalid, Held, held, held-run, held-fits, held-filed}
-use Rattle.report_lines.specs.Lines.{archiveRefusedLine, recordText}
+use Rattle.report_lines.specs.Lines.{archiveRefusedLine}
+use Rattle.report_record.specs.Record.{recordText}
 use Rattle.report.specs.Report.{inputLimit, longest, segmentText, recordsText, archiveText, inputText}
 use Rattle.report.specs.Running.{Runs}
 use Rattle.report.specs.Working.{same-answer, longest-room}

@@ -11,7 +11,8 @@ use Rattle.segment.specs.Segment.{segmentOf}
 use Rattle.propagation.specs.Propagation.{Profiles, profiles}
 use Rattle.working.specs.Working.{callOf}
 use Rattle.archive_format.specs.Archive.{Filed, decode, segments}
-use Rattle.report_lines.specs.Lines.{recordText, archiveRefusedLine}
+use Rattle.report_lines.specs.Lines.{archiveRefusedLine}
+use Rattle.report_record.specs.Record.{recordText}
 
 -- profiles that every record's cycle fits
 unfoldable pub longest : Profiles

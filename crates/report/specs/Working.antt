@@ -10,12 +10,13 @@ use borrow.Author.Tests.{le-leb}
 use Rattle.refusal.specs.Refusal.{Or, refused, ok, need, andThen}
 use Rattle.segment.specs.declared.Segment.{Segment}
 use Rattle.validation.specs.Validation.{checkOf}
-use Rattle.validation.specs.Ranges.{accepted}
+use Rattle.validation.specs.Accepted.{accepted}
 use Rattle.validation.specs.Accepting.{acceptWith}
 use Rattle.shares.specs.Sharing.{Told}
 use Rattle.propagation.specs.Propagation.{Profiles, filledOf}
 use Rattle.propagation.specs.Steps.{Room}
-use Rattle.working.specs.Working.{fits, called, unworkedOf, workedOf, sharingOf, bySharing, byRecord, callOf}
+use Rattle.outcome.specs.Outcome.{workedOf}
+use Rattle.working.specs.Working.{fits, called, unworkedOf, sharingOf, bySharing, byRecord, callOf}
 use Rattle.report.specs.Report.{longest}
 
 abbrev fitsIn : Profiles → Segment → Bool

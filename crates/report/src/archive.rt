@@ -27,7 +27,7 @@ fn segment_text(
     let number = octets::word4_at(bytes, segment::NUMBER_AT);
     let cycle = octets::word2_at(bytes, segment::CYCLE_AT);
     let w = working::work(bytes, output, first, second);
-    report_lines::record_text(text, at, number, cycle, w)
+    report_record::record_text(text, at, number, cycle, w)
 }
 
 // So many records from place 0 on, in order: the next record starts after the title.

@@ -4,10 +4,6 @@ use Prim.Native.Nat.{ℕ}
 use mathlib.Core.List.{List, [], _∷_, _++_}
 use Rattle.text.specs.Text.{field}
 use Rattle.exit_figures.specs.declared.ExitFigures.{ExitFigures}
-use Rattle.working.specs.declared.Outcome.{Outcome}
-use Rattle.working.specs.declared.Outcome.the-variants.{Worked, Refused, Unsettled}
-use Rattle.working.specs.declared.Working.{Working}
-use Rattle.working.specs.Working.{numberOf}
 
 -- ---- the words, as bytes
 
@@ -96,24 +92,3 @@ refusedLine number k = field recordLabel number ++ field refusedLabel k ++ newli
 -- drawer refused 2
 unfoldable pub archiveRefusedLine : ℕ → List ℕ
 archiveRefusedLine k = field archiveLabel k ++ newline
-
--- ---- a record
-
--- six lines, exits in order
-unfoldable pub workedText : (number cycle : ℕ) → Working → List ℕ
-workedText number cycle w =
-    recordLine number cycle (w .arrival) (w .rounds)
-    ++ exitLine (exitLabel letterL) (w .left)
-    ++ exitLine (exitLabel letterT) (w .through)
-    ++ exitLine (exitLabel letterR) (w .right)
-    ++ accessLine (w .access)
-    ++ blockedLine (w .blocked) cycle
-
--- a refused record has one line; 15 stands without its sum
-abbrev pub textBy : Outcome → (number cycle : ℕ) → Working → List ℕ
-textBy (Worked x) number cycle w = workedText number cycle w
-textBy (Refused k) number cycle w = refusedLine number (numberOf (Refused k))
-textBy (Unsettled x) number cycle w = refusedLine number (numberOf (Unsettled x))
-
-unfoldable pub recordText : (number cycle : ℕ) → Working → List ℕ
-recordText number cycle w = textBy (w .outcome) number cycle w

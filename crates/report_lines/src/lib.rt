@@ -1,11 +1,9 @@
-// The lines of one record, and of a refused archive, appended to a lent buffer. None of the calls asks anything of its caller.
+// The lines that the program prints, from plain numbers, appended to a lent buffer. None of the calls asks anything of its caller.
 ghost use Rattle.text.specs.Text.{Wrote};
-ghost use Rattle.report_lines.specs.Lines.{accessLine, archiveRefusedLine, blockedLine, exitLine, newline, recordLine, recordText, refusedLine, workedText};
+ghost use Rattle.report_lines.specs.Lines.{accessLine, archiveRefusedLine, blockedLine, exitLine, newline, recordLine, refusedLine};
 use exit_figures::ExitFigures;
 use text::append_bytes;
 use text::append_field;
-use working::Outcome;
-use working::Working;
 
 fn end_line(text: &mut [u8], at: usize) -> usize
     ensures { λ r. ⌜ Wrote (now (text .entry)) at newline (now (text .exit)) r ⌝ }
@@ -13,7 +11,7 @@ fn end_line(text: &mut [u8], at: usize) -> usize
     append_bytes(text, at, b"\n")
 }
 
-fn record_line(
+pub fn record_line(
     text: &mut [u8],
     at: usize,
     number: u32,
@@ -30,7 +28,7 @@ fn record_line(
     end_line(text, p)
 }
 
-fn exit_line(text: &mut [u8], at: usize, label: &[u8], f: ExitFigures) -> usize
+pub fn exit_line(text: &mut [u8], at: usize, label: &[u8], f: ExitFigures) -> usize
     ensures { λ r. ⌜ Wrote (now (text .entry)) at (exitLine (now (label .entry)) f) (now (text .exit)) r ⌝ }
 {
     let p = append_field(text, at, label, f.total);
@@ -40,14 +38,14 @@ fn exit_line(text: &mut [u8], at: usize, label: &[u8], f: ExitFigures) -> usize
 }
 
 // The access exit has its total only.
-fn access_line(text: &mut [u8], at: usize, total: u64) -> usize
+pub fn access_line(text: &mut [u8], at: usize, total: u64) -> usize
     ensures { λ r. ⌜ Wrote (now (text .entry)) at (accessLine total) (now (text .exit)) r ⌝ }
 {
     let p = append_field(text, at, b"exit a total ", total);
     end_line(text, p)
 }
 
-fn blocked_line(text: &mut [u8], at: usize, count: u32, cycle: u32) -> usize
+pub fn blocked_line(text: &mut [u8], at: usize, count: u32, cycle: u32) -> usize
     ensures { λ r. ⌜ Wrote (now (text .entry)) at (blockedLine count cycle) (now (text .exit)) r ⌝ }
 {
     let p = append_field(text, at, b"blocked ", count as u64);
@@ -55,7 +53,7 @@ fn blocked_line(text: &mut [u8], at: usize, count: u32, cycle: u32) -> usize
     end_line(text, p)
 }
 
-fn refused_line(text: &mut [u8], at: usize, number: u32, k: u32) -> usize
+pub fn refused_line(text: &mut [u8], at: usize, number: u32, k: u32) -> usize
     ensures { λ r. ⌜ Wrote (now (text .entry)) at (refusedLine number k) (now (text .exit)) r ⌝ }
 {
     let p = append_field(text, at, b"card ", number as u64);
@@ -68,26 +66,4 @@ pub fn archive_refused_line(text: &mut [u8], at: usize, k: u32) -> usize
 {
     let p = append_field(text, at, b"drawer refused ", k as u64);
     end_line(text, p)
-}
-
-fn worked_text(text: &mut [u8], at: usize, number: u32, cycle: u32, w: Working) -> usize
-    ensures { λ r. ⌜ Wrote (now (text .entry)) at (workedText number cycle w) (now (text .exit)) r ⌝ }
-{
-    let p = record_line(text, at, number, cycle, w.arrival, w.rounds);
-    let p = exit_line(text, p, b"exit l total ", w.left);
-    let p = exit_line(text, p, b"exit t total ", w.through);
-    let p = exit_line(text, p, b"exit r total ", w.right);
-    let p = access_line(text, p, w.access);
-    blocked_line(text, p, w.blocked, cycle)
-}
-
-pub fn record_text(text: &mut [u8], at: usize, number: u32, cycle: u32, w: Working) -> usize
-    ensures { λ r. ⌜ Wrote (now (text .entry)) at (recordText number cycle w) (now (text .exit)) r ⌝ }
-{
-    let outcome = w.outcome;
-    match outcome {
-        Outcome::Worked(_) => worked_text(text, at, number, cycle, w),
-        Outcome::Refused(k) => refused_line(text, at, number, k),
-        Outcome::Unsettled(_) => refused_line(text, at, number, 15),
-    }
 }

@@ -11,7 +11,8 @@ use Rattle.segment.specs.declared.Segment.{Segment}
 use Rattle.segment.specs.Layout.{size}
 use Rattle.segment.specs.Segment.{segmentOf}
 use Rattle.validation.specs.declared.Checked.the-variants.{Refused, Valid}
-use Rattle.validation.specs.Validation.{cycleFits, runningFits, headwayFits, volumesFit, greensFit, seedsAdd, checkOf, checkedOf}
+use Rattle.ranges.specs.Tests.{cycleFits, runningFits, headwayFits, volumesFit, greensFit, seedsAdd}
+use Rattle.validation.specs.Validation.{checkOf, checkedOf}
 
 pub wrong-size : (l : List ℕ) → (length l ≡ size → ⊥) → Refused 6 ≡ checkedOf (checkOf l)
 unfolding checkOf need

@@ -9,7 +9,7 @@ use Rattle.segment.specs.Segment.{segmentOf}
 use Rattle.segment.specs.declared.Segment.{Segment}
 use Rattle.validation.specs.declared.Checked.the-variants.{Refused, Valid}
 use Rattle.validation.specs.Validation.{checkOf, checkedOf}
-use Rattle.validation.specs.Ranges.{Accepted, accepted}
+use Rattle.validation.specs.Accepted.{Accepted, accepted}
 
 unfoldable pub acceptWith : List ℕ → (Segment → Bool) → Or Segment
 acceptWith l fits = andThen (checkOf l) (λ s. need 16 (fits s) (ok s))

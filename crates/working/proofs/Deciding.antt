@@ -14,7 +14,8 @@ use Rattle.segment.specs.Segment.{segmentOf}
 use Rattle.validation.specs.declared.Checked.the-variants as checked
 use Rattle.validation.specs.Validation.{checkedOf}
 use Rattle.validation.specs.Accepting.{checked-refused, checked-valid, accept-passed, accept-numbers}
-use Rattle.validation.specs.Ranges.{Ranges, Accepted}
+use Rattle.ranges.specs.Ranges.{Ranges}
+use Rattle.validation.specs.Accepted.{Accepted}
 use Rattle.movements.specs.declared.Counts.{Counts}
 use Rattle.flows.specs.Flows.{zero64}
 use Rattle.metering.specs.Metering.{dischargesOf}
@@ -25,11 +26,12 @@ use Rattle.propagation.specs.Propagation.{Profiles, filledOf}
 use Rattle.propagation.specs.Steps.{Room, FillAsks}
 use Rattle.demand3.specs.Demand3.{Demand3}
 use Rattle.demand3.specs.Holds.{demand-3}
-use Rattle.working.specs.declared.Outcome.{Outcome}
-use Rattle.working.specs.declared.Outcome.the-variants.{Worked, Refused, Unsettled}
-use Rattle.working.specs.declared.Working.{Working}
-use Rattle.working.specs.Working.{outcomeOf, acceptOf, sharingOf, refusedWith, workedOf, Called, called, bySharing, callOf, Works}
-use Rattle.working.specs.Filled.{Filled}
+use Rattle.outcome.specs.declared.Outcome.{Outcome}
+use Rattle.outcome.specs.declared.Outcome.the-variants.{Worked, Refused, Unsettled}
+use Rattle.outcome.specs.declared.Working.{Working}
+use Rattle.outcome.specs.Outcome.{outcomeOf, refusedWith, workedOf}
+use Rattle.working.specs.Working.{acceptOf, sharingOf, Called, called, bySharing, callOf, Works}
+use Rattle.outcome.specs.Filled.{Filled}
 use Rattle.working.proofs.Rows.{rows-fit}
 
 -- ---- what the sharing decides

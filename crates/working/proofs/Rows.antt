@@ -10,7 +10,7 @@ use Rattle.movements.specs.Movements.{flowUnits}
 use Rattle.flows.specs.declared.Flows.{Flows}
 use Rattle.flows.specs.declared.FlowTable.{FlowTable}
 use Rattle.segment.specs.declared.Segment.{Segment}
-use Rattle.validation.specs.Ranges.{Ranges}
+use Rattle.ranges.specs.Ranges.{Ranges}
 use Rattle.metering.specs.Metering.{discharged, dischargesOf, discharged-volume}
 use Rattle.pair_shares.specs.Shares.{WithinLimit, pairRow, pairRows, row-adds}
 use Rattle.shares.specs.Meaning.{from-cells}

@@ -1,2 +1,1 @@
 pub mod Working
-pub mod Filled

@@ -3,8 +3,6 @@ use native.Mathlib.Omega.{arith}
 use mathlib.Core.Logic.{⊎-elim}
 use Rattle.discharge_vectors.proofs.main.Statement.{statement}
 use Rattle.discharge_vectors.proofs.main.Tie as tie
-use Rattle.discharge_vectors.proofs.main.Reads as reads
-use Rattle.discharge_vectors.proofs.main.Lts as lts
 use Rattle.discharge_vectors.proofs.next_differs.Reads as next-differs-reads
 use Rattle.vectors.proofs.differing.Reads as differing-reads
 use Rattle.vectors.proofs.finish.Reads as finish-reads

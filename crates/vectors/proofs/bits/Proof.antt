@@ -7,8 +7,6 @@ use Prim.Native.Nat.{_*_}
 use borrow.Author.Needs.{needs}
 use Rattle.vectors.proofs.bits.Statement.{statement}
 use Rattle.vectors.proofs.bits.Tie as tie
-use Rattle.vectors.proofs.bits.Reads as reads
-use Rattle.vectors.proofs.bits.Lts as lts
 
 -- only a NaN differs from itself
 number : (x : Float) → ne x x ≡ false → T (not (isNan x))

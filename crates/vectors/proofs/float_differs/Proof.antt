@@ -2,8 +2,6 @@ use Rattle.vectors.specs.Vectors.{floatDiffers}
 use borrow.Author.Needs.{needs}
 use Rattle.vectors.proofs.float_differs.Statement.{statement}
 use Rattle.vectors.proofs.float_differs.Tie as tie
-use Rattle.vectors.proofs.float_differs.Reads as reads
-use Rattle.vectors.proofs.float_differs.Lts as lts
 use Rattle.octets.proofs.word8_at.Reads as word8-at-reads
 use Rattle.vectors.proofs.bits.Reads as bits-reads
 

@@ -2,8 +2,6 @@ use Rattle.vectors.specs.Vectors.{rowDiffers}
 use borrow.Author.Needs.{needs}
 use Rattle.vectors.proofs.row_differs.Statement.{statement}
 use Rattle.vectors.proofs.row_differs.Tie as tie
-use Rattle.vectors.proofs.row_differs.Reads as reads
-use Rattle.vectors.proofs.row_differs.Lts as lts
 use Rattle.octets.proofs.word4_at.Reads as word4-at-reads
 
 -- src/lib.rt:86:6

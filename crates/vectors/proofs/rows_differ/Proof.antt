@@ -2,8 +2,6 @@ use Rattle.vectors.specs.Vectors.{rowsDiffer}
 use borrow.Author.Needs.{needs}
 use Rattle.vectors.proofs.rows_differ.Statement.{statement}
 use Rattle.vectors.proofs.rows_differ.Tie as tie
-use Rattle.vectors.proofs.rows_differ.Reads as reads
-use Rattle.vectors.proofs.rows_differ.Lts as lts
 use Rattle.vectors.proofs.row_differs.Reads as row-differs-reads
 
 -- src/lib.rt:97:31
