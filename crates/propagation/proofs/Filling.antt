@@ -5,7 +5,7 @@ use mathlib.Core.Path.{_≡_, refl, ap, _∙_}
 use mathlib.Core.List.{List, []}
 use lib.ListN.{length, drop, getD}
 use lib.Seq.{drop-at}
-use Rattle.movements.specs.Movements.{flowUnits}
+use Rattle.movements.specs.Movements.{entryLimit, flowUnits}
 use Rattle.segment.specs.declared.Entry.{Entry}
 use Rattle.segment.specs.declared.Segment.{Segment}
 use Rattle.ranges.specs.Ranges.{Ranges, EntryRanges}
@@ -19,6 +19,10 @@ use Rattle.arrivals.specs.Laws.{runs-le, begun-runs, added-runs, lands-le}
 use Rattle.propagation.specs.Propagation.{Profiles, profiles, cycles, pairFlow, entryArrivals, pairOf, landsIn, flowAt, filledOf}
 use Rattle.propagation.specs.Steps.{spreadStep, EntryAsks, entryStep, Room, RowsFit, FillAsks, room-kept}
 
+-- the flow units that the access entry can bring to a step
+abbrev pub accessLimit : ℕ
+accessLimit = flowUnits entryLimit
+
 -- after some entries: the runs, a bound of their numbers, and the work profiles beyond the cycle
 pub record Filling (s : Segment) (p₀ p : Profiles) (b : ℕ) (r : ℕ → ℕ → ℕ) : Type 0 where
   pub room : Room (s .cycle) p
@@ -28,7 +32,7 @@ pub record Filling (s : Segment) (p₀ p : Profiles) (b : ℕ) (r : ℕ → ℕ 
   pub second : drop (s .cycle) (p .second) ≡ drop (s .cycle) (p₀ .second)
 
 pub fill-begin : {s : Segment} {rows : List (List ℕ)} {o f g : List ℕ} → FillAsks s rows (profiles o f g) → {o′ : List ℕ} →
-    o′ ≡ begun (s .cycle) (getD rows 3 []) o → length o′ ≡ length o → Filling s (profiles o f g) (profiles o′ f g) 6000000 (λ j k. pairFlow rows 3 j)
+    o′ ≡ begun (s .cycle) (getD rows 3 []) o → length o′ ≡ length o → Filling s (profiles o f g) (profiles o′ f g) accessLimit (λ j k. pairFlow rows 3 j)
 fill-begin {s} {rows} {o} h e n =
     record {
       room = record { output = omega (arith, h .room .output, n); first = h .room .first; second = h .room .second };

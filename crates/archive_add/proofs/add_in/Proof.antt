@@ -12,20 +12,27 @@ use Rattle.archive_add.proofs.Answers.{held-next, short-title, add-inva
 use Rattle.archive_add.proofs.add_in.Statement.{statement}
 use Rattle.archive_add.proofs.add_in.Tie as tie
 
-here : (c : tie.After-o2) → Held (c .before .before .before .before .before .before .before .args .e) (c .before .before .before .before .before .before .before .args .s .now) (c .o2 .given .0 .0) (c .o2 .given .0 .1 .0) (c .o2 .given .0 .1 .1 .0)
+abbrev start : tie.After-o2 → tie.Start
+start c = c .before .before .before .before .before .before .before
+
+abbrev opened : tie.Else2 → tie.After-o2
+opened c = c .before .before .before .before .before
+
+here : (c : tie.After-o2) → Held (start c .args .e) (start c .args .s .now) (c .o2 .given .0 .0) (c .o2 .given .0 .1 .0) (c .o2 .given .0 .1 .1 .0)
 here c = held (sym (c .before .before .open .ensures) ∙ c .o2 .given .1)
 
-clean : (c : tie.Else2) → titleFits (c .before .before .before .before .before .before .before .before .before .before .before .before .args .title .now) ≡ true
+clean : (c : tie.Else2) → titleFits (start (opened c) .args .title .now) ≡ true
 clean c = sym (c .before .before .title-fits .ensures) ∙ not-false _ (c .if2 .left)
 
-title : (c : tie.Else2) → length (c .before .before .before .before .before .before .before .before .before .before .before .before .args .title .now) ≤ titleLimit
-title c = short-title (c .before .before .before .before .before .before .before .before .before .before .before .before .args .title .now) (clean c)
+title : (c : tie.Else2) → length (start (opened c) .args .title .now) ≤ titleLimit
+title c = short-title (start (opened c) .args .title .now) (clean c)
 
-above : (c : tie.Else3) → c .before .before .before .before .before .before .o2 .given .0 .1 .1 .0 < word4 (c .before .before .before .before .before .before .before .before .before .before .before .before .before .args .segment .now) 0
+above : (c : tie.Else3) → opened (c .before) .o2 .given .0 .1 .1 .0 < word4 (start (opened (c .before)) .args .segment .now) 0
 above c = omega (arith, c .before .before .word4-at .ensures, c .if3 .left)
 
-fits : (c : tie.Else3) → c .before .before .before .before .before .before .o2 .given .0 .1 .0 + c .before .before .before .before .before .before .before .before .before .before .before .before .before .args .e .size + 1 + length (c .before .before .before .before .before .before .before .before .before .before .before .before .before .args .title .now) + 2 * (c .before .before .before .before .before .before .o2 .given .0 .0) + 8 < 18446744073709551616
-fits c = omega (arith, held-fits _ _ (here (c .before .before .before .before .before .before)), title (c .before), c .before .before .before .before .before .before .before .before .before .before .before .before .before .good)
+fits : (c : tie.Else3) → let o = opened (c .before) in let a = start o .args in
+    o .o2 .given .0 .1 .0 + a .e .size + 1 + length (a .title .now) + 2 * (o .o2 .given .0 .0) + 8 < 18446744073709551616
+fits c = let o = opened (c .before) in omega (arith, held-fits _ _ (here o), title (c .before), start o .good)
 
 open-requires : tie.Need-open-requires
 open-requires c κs = search needs
@@ -80,19 +87,30 @@ returns-6 c = add-full _ _ _ _ _ (here (c .before .before .before .before .befor
 
 grow-requires : tie.Need-grow-requires
 grow-requires c κs =
+    let titled = c .before .before .before .before in
+    let o = opened titled in
+    let sized = c .before .before .before .before .before .before .before .if1 .left in
     record {
       few = search needs;
-      short = omega (arith, title (c .before .before .before .before));
-      placed = omega (arith, held-next _ _ (here (c .before .before .before .before .before .before .before .before .before)) (length (c .before .before .before .before .before .before .before .before .before .before .before .before .before .before .before .before .args .title .now)) (c .before .before .before .before .before .before .before .before .before .before .before .before .before .before .before .before .pre) (search needs) (title (c .before .before .before .before)), c .before .before .before .before .before .before .before .if1 .left);
-      held = omega (arith, held-fits _ _ (here (c .before .before .before .before .before .before .before .before .before)));
-      enough = omega (arith, c .before .before .if4 .left, c .before .before .before .before .before .before .before .if1 .left);
+      short = omega (arith, title titled);
+      placed = omega (arith, held-next _ _ (here o) (length (start o .args .title .now)) (start o .pre) (search needs) (title titled), sized);
+      held = omega (arith, held-fits _ _ (here o));
+      enough = omega (arith, c .before .before .if4 .left, sized);
     }
 
 same-length : tie.Need-same-length
 same-length c = search needs
 
 returns-7 : tie.Need-returns-7
-returns-7 c = add-done _ _ _ _ _ (here (c .before .before .before .before .before .before .before .before .before .before .before .before)) (c .before .before .before .before .before .before .before .before .before .before .if1 .left) (clean (c .before .before .before .before .before .before .before)) (above (c .before .before .before .before .before .before)) (c .before .before .before .before .before .if4 .left) (λ i. c .before .before .before .before .before .before .before .before .before .before .before .before .before .before .before .before .before .before .shared-slice-known .given i .fits) (search needs) (c .before .before .grow .ensures)
+returns-7 c =
+    let at-grow = c .before .before in
+    let at-if4 = at-grow .before .before .before in
+    let at-raised = at-if4 .before in
+    let at-titled = at-raised .before in
+    let at-if1 = at-titled .before .before .before in
+    let at-opened = at-if1 .before .before in
+    let at-shared-slice-known = at-opened .before .before .before .before .before .before in
+    add-done _ _ _ _ _ (here at-opened) (at-if1 .if1 .left) (clean at-titled) (above at-raised) (at-if4 .if4 .left) (λ i. at-shared-slice-known .shared-slice-known .given i .fits) (search needs) (at-grow .grow .ensures)
 
 pub add-in-spec : {M : Type 1} → statement M
 add-in-spec =

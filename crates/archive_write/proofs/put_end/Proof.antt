@@ -25,7 +25,14 @@ same-length : tie.Need-same-length
 same-length c = search needs
 
 returns : tie.Need-returns
-returns c = end-put (c .before .before .before .before .before .before .before .before .before .before .args .e) _ _ (c .before .before .before .before .before .before .before .before .low .ensures) (c .before .before .before .before .before .before .before .high .ensures) (c .before .before .before .before .before .before .low2 .ensures) (c .before .before .before .before .before .high2 .ensures) (c .before .before .put .ensures)
+returns c =
+    let at-put = c .before .before in
+    let at-high2 = at-put .before .before .before in
+    let at-low2 = at-high2 .before in
+    let at-high = at-low2 .before in
+    let at-low = at-high .before in
+    let start = at-low .before .before in
+    end-put (start .args .e) _ _ (at-low .low .ensures) (at-high .high .ensures) (at-low2 .low2 .ensures) (at-high2 .high2 .ensures) (at-put .put .ensures)
 
 pub put-end-spec : {M : Type 1} → statement M
 put-end-spec =

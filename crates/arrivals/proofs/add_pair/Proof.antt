@@ -59,7 +59,12 @@ loop-less : tie.Need-loop-less Inv-loop μ-loop
 loop-less c = omega arith
 
 loop-again : tie.Need-loop-again Inv-loop μ-loop
-loop-again c = adding-turn (c .before .before .before .before .before .before .before .loop .inv) (c .before .before .before .before .before .before .before .before .before .before .before .before .pre) (omega arith) _ (c .before .before .before .index .ensures) _ (c .before .before .before .before .part-of .ensures) (c .next .ensures)
+loop-again c =
+    let at-index = c .before .before .before in
+    let at-part-of = at-index .before in
+    let in-loop = at-part-of .before .before .before in
+    let start = in-loop .before .before .before .before .before in
+    adding-turn (in-loop .loop .inv) (start .pre) (omega arith) _ (at-index .index .ensures) _ (at-part-of .part-of .ensures) (c .next .ensures)
 
 same-length : tie.Need-same-length Inv-loop μ-loop
 same-length c = c .before .loop .inv .long

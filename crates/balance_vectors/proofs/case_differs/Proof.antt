@@ -24,7 +24,13 @@ seeds-at-requires : tie.Need-seeds-at-requires
 seeds-at-requires c κs = search needs
 
 answer-differs-requires : tie.Need-answer-differs-requires
-answer-differs-requires c κs = (c .before .before .before .before .before .before .before .before .before .before .before .before .pre, (c .before .before .before .before .before .before .before .before .if1 .left, c .before .before .before .before .before .before .if2 .left, c .before .before .before .before .if3 .left, c .before .before .if4 .left))
+answer-differs-requires c κs =
+    let at-if4 = c .before .before in
+    let at-if3 = at-if4 .before .before in
+    let at-if2 = at-if3 .before .before in
+    let at-if1 = at-if2 .before .before in
+    let start = at-if1 .before .before .before .before in
+    (start .pre, (at-if1 .if1 .left, at-if2 .if2 .left, at-if3 .if3 .left, at-if4 .if4 .left))
 
 returns-5 : tie.Need-returns-5
 returns-5 c = search needs

@@ -23,7 +23,11 @@ mul-if1 : tie.Need-mul-if1
 mul-if1 c = search needs
 
 returns : tie.Need-returns
-returns c = accept-short _ _ _ (sym (c .before .before .before .before .before .check .ensures) ∙ c .before .before .before .checked2 .given .1) (lt-leb (3 * c .before .before .before .checked2 .given .0 .0 .cycle) (c .before .before .before .before .before .before .before .args .room) (omega (arith, c .if1 .taken)))
+returns c =
+    let at-checked2 = c .before .before .before in
+    let at-check = at-checked2 .before .before in
+    let start = at-check .before .before in
+    accept-short _ _ _ (sym (at-check .check .ensures) ∙ at-checked2 .checked2 .given .1) (lt-leb (3 * at-checked2 .checked2 .given .0 .0 .cycle) (start .args .room) (omega (arith, c .if1 .taken)))
 
 returns-2 : tie.Need-returns-2
 returns-2 c = accept-refused _ _ _ (sym (c .before .before .before .check .ensures) ∙ c .before .checked .given .1)

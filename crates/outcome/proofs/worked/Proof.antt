@@ -93,9 +93,16 @@ blocked-steps-requires : tie.Need-blocked-steps-requires
 blocked-steps-requires c κs = search needs
 
 returns : tie.Need-returns
-returns c = let f = c .before .before .before .before .before .before .before .before .before .before .before .before .before .pre in
-    let n = c .before .before .before .before .before .before .before .before .before .before .before .before .before .args .s .cycle in
-    worked-is _ _ _ _ (run-is f 0 0 n (omega arith) (omega arith) (omega arith)) (run-is f 1 n (n + n) (omega arith) (omega arith) (omega arith)) (run-is f 2 (n + n) (n + n + n) (omega arith) (omega arith) (omega arith)) (run-is f 3 (n + n + n) (n + n + n + n) (omega arith) (omega arith) (omega arith)) (c .before .before .before .before .before .before .before .before .before .before .arrival-time .ensures) (c .before .before .before .before .before .before .before .before .figures .ensures) (c .before .before .before .before .before .before .figures2 .ensures) (c .before .before .before .before .figures3 .ensures) (c .before .before .total .ensures) (c .blocked-steps .ensures)
+returns c =
+    let at-total = c .before .before in
+    let at-figures3 = at-total .before .before in
+    let at-figures2 = at-figures3 .before .before in
+    let at-figures = at-figures2 .before .before in
+    let at-arrival-time = at-figures .before .before in
+    let start = at-arrival-time .before .before .before in
+    let f = start .pre in
+    let n = start .args .s .cycle in
+    worked-is _ _ _ _ (run-is f 0 0 n (omega arith) (omega arith) (omega arith)) (run-is f 1 n (n + n) (omega arith) (omega arith) (omega arith)) (run-is f 2 (n + n) (n + n + n) (omega arith) (omega arith) (omega arith)) (run-is f 3 (n + n + n) (n + n + n + n) (omega arith) (omega arith) (omega arith)) (at-arrival-time .arrival-time .ensures) (at-figures .figures .ensures) (at-figures2 .figures2 .ensures) (at-figures3 .figures3 .ensures) (at-total .total .ensures) (c .blocked-steps .ensures)
 
 pub worked-spec : {M : Type 1} → statement M
 worked-spec =

@@ -34,7 +34,11 @@ part-spread-end : tie.Need-part-spread-end
 part-spread-end c = front-long _ _ (c .before .before .before .discharge-entry .last .1 .1 .0) (c .before .before .before .discharge-entry .ensures .1) (drop (c .before .before .before .before .before .before .before .before .args .cycle - 0) (replicate 240 0))
 
 spread-requires : tie.Need-spread-requires
-spread-requires c κs = entry-asks (c .before .before .before .before .before .before .before .before .before .before .before .before .pre) (c .before .before .before .before .before .flow-units .ensures ∙ ap flowUnits (c .before .before .before .before .before .before .before .discharge-entry .ensures .0)) (front _ _ _ (c .before .before .before .before .before .before .before .discharge-entry .ensures .1) _)
+spread-requires c κs =
+    let at-flow-units = c .before .before .before .before .before in
+    let at-discharge-entry = at-flow-units .before .before in
+    let start = at-discharge-entry .before .before .before .before .before in
+    entry-asks (start .pre) (at-flow-units .flow-units .ensures ∙ ap flowUnits (at-discharge-entry .discharge-entry .ensures .0)) (front _ _ _ (at-discharge-entry .discharge-entry .ensures .1) _)
 
 same-length : tie.Need-same-length
 same-length c = search needs
@@ -46,7 +50,11 @@ same-length-3 : tie.Need-same-length-3
 same-length-3 c = search needs
 
 returns : tie.Need-returns
-returns c = entry-done _ _ _ _ _ (c .before .before .before .before .before .before .before .before .before .before .before .before .flow-units .ensures ∙ ap flowUnits (c .before .before .before .before .before .before .before .before .before .before .before .before .before .before .discharge-entry .ensures .0)) (front _ _ _ (c .before .before .before .before .before .before .before .before .before .before .before .before .before .before .discharge-entry .ensures .1) _) (c .before .before .before .before .before .before .spread .ensures)
+returns c =
+    let at-spread = c .before .before .before .before .before .before in
+    let at-flow-units = at-spread .before .before .before .before .before .before in
+    let at-discharge-entry = at-flow-units .before .before in
+    entry-done _ _ _ _ _ (at-flow-units .flow-units .ensures ∙ ap flowUnits (at-discharge-entry .discharge-entry .ensures .0)) (front _ _ _ (at-discharge-entry .discharge-entry .ensures .1) _) (at-spread .spread .ensures)
 
 pub fill-entry-spec : {M : Type 1} → statement M
 fill-entry-spec =

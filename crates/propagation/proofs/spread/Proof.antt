@@ -13,7 +13,12 @@ arrival-time-requires : tie.Need-arrival-time-requires
 arrival-time-requires c κs = search needs
 
 add-entry-requires : tie.Need-add-entry-requires
-add-entry-requires c κs = spread-adds _ _ _ _ (c .before .before .before .before .before .before .before .before .before .alternate .ensures) (c .before .before .before .before .before .before .before .before .before .before .before .before .before .before .before .before .pre) (c .before .before .last-cycle .ensures) (c .before .arrival-time .ensures)
+add-entry-requires c κs =
+    let at-arrival-time = c .before in
+    let at-last-cycle = at-arrival-time .before in
+    let at-alternate = at-last-cycle .before .before .before .before .before .before .before in
+    let start = at-alternate .before .before .before .before .before .before .before in
+    spread-adds _ _ _ _ (at-alternate .alternate .ensures) (start .pre) (at-last-cycle .last-cycle .ensures) (at-arrival-time .arrival-time .ensures)
 
 same-length : tie.Need-same-length
 same-length c = search needs
@@ -25,7 +30,12 @@ same-length-3 : tie.Need-same-length-3
 same-length-3 c = search needs
 
 returns : tie.Need-returns
-returns c = spread-done _ _ _ _ (c .before .before .before .before .before .before .before .before .before .before .before .before .alternate .ensures) _ _ _ (c .before .before .before .before .before .last-cycle .ensures) (c .before .before .before .before .arrival-time .ensures) (c .before .before .add-entry .ensures)
+returns c =
+    let at-add-entry = c .before .before in
+    let at-arrival-time = at-add-entry .before .before in
+    let at-last-cycle = at-arrival-time .before in
+    let at-alternate = at-last-cycle .before .before .before .before .before .before .before in
+    spread-done _ _ _ _ (at-alternate .alternate .ensures) _ _ _ (at-last-cycle .last-cycle .ensures) (at-arrival-time .arrival-time .ensures) (at-add-entry .add-entry .ensures)
 
 pub spread-spec : {M : Type 1} → statement M
 spread-spec =

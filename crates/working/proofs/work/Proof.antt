@@ -32,7 +32,11 @@ same-length-3 : tie.Need-same-length-3
 same-length-3 c = search needs
 
 returns-2 : tie.Need-returns-2
-returns-2 c = record-worked _ _ _ (sym (c .before .before .before .before .before .before .before .before .before .before .before .before .before .accept .ensures) ∙ c .before .before .before .before .before .before .before .before .before .before .before .accepted2 .given .1) _ _ (c .before .before .before .before .before .before .work-accepted .ensures)
+returns-2 c =
+    let at-work-accepted = c .before .before .before .before .before .before in
+    let at-accepted2 = at-work-accepted .before .before .before .before .before in
+    let at-accept = at-accepted2 .before .before in
+    record-worked _ _ _ (sym (at-accept .accept .ensures) ∙ at-accepted2 .accepted2 .given .1) _ _ (at-work-accepted .work-accepted .ensures)
 
 pub work-spec : {M : Type 1} → statement M
 work-spec =

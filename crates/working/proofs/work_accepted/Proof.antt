@@ -37,10 +37,20 @@ rows-of-requires : tie.Need-rows-of-requires
 rows-of-requires c κs = search needs
 
 fill-requires : tie.Need-fill-requires
-fill-requires c κs = fill-asks _ _ (c .before .before .before .before .before .before .before .before .before .before .before .before .pre .0) (c .before .before .before .before .before .before .before .before .before .before .before .before .pre .1) (told-number _ _ (c .before .before .before .before .before .before .before .decide .result) (c .before .before .before .before .before .before .before .before .discharges .ensures) (c .before .before .before .before .before .before .before .decide .ensures) _ (c .before .before .before .before .before .verdict2 .given .1)) (c .before .before .before .rows-of .ensures ∙ told-pairs _ _ (c .before .before .before .before .before .before .before .decide .result) (c .before .before .before .before .before .before .before .before .discharges .ensures) (c .before .before .before .before .before .before .before .decide .ensures))
+fill-requires c κs =
+    let at-rows-of = c .before .before .before in
+    let at-verdict2 = at-rows-of .before .before in
+    let at-decide = at-verdict2 .before .before in
+    let at-discharges = at-decide .before in
+    let start = at-discharges .before .before .before .before in
+    fill-asks _ _ (start .pre .0) (start .pre .1) (told-number _ _ (at-decide .decide .result) (at-discharges .discharges .ensures) (at-decide .decide .ensures) _ (at-verdict2 .verdict2 .given .1)) (at-rows-of .rows-of .ensures ∙ told-pairs _ _ (at-decide .decide .result) (at-discharges .discharges .ensures) (at-decide .decide .ensures))
 
 worked-requires : tie.Need-worked-requires
-worked-requires c κs = filled _ (profiles _ _ _) (c .before .before .before .before .before .before .before .before .before .before .before .before .before .before .before .before .before .before .before .before .pre .0) (c .before .before .before .before .before .before .before .before .before .before .before .rows-of .ensures) (profiles _ _ _) (c .before .before .before .before .before .before .before .fill .ensures)
+worked-requires c κs =
+    let at-fill = c .before .before .before .before .before .before .before in
+    let at-rows-of = at-fill .before .before .before .before in
+    let start = at-rows-of .before .before .before .before .before .before .before .before .before in
+    filled _ (profiles _ _ _) (start .pre .0) (at-rows-of .rows-of .ensures) (profiles _ _ _) (at-fill .fill .ensures)
 
 returns : tie.Need-returns
 returns c = shares-refused _ _ 13 (told-number _ _ _ (c .before .before .before .before .discharges .ensures) (c .before .before .before .decide .ensures) _ (c .before .enum-told .given .1)) refl refl (c .refused .ensures)
@@ -49,7 +59,11 @@ returns-2 : tie.Need-returns-2
 returns-2 c = shares-refused _ _ 14 (told-number _ _ _ (c .before .before .before .before .discharges .ensures) (c .before .before .before .decide .ensures) _ (c .before .enum-told2 .given .1)) refl refl (c .refused2 .ensures)
 
 returns-3 : tie.Need-returns-3
-returns-3 c = shares-unsettled _ _ _ (told-number _ _ _ (c .before .before .before .before .before .discharges .ensures) (c .before .before .before .before .decide .ensures) _ (c .before .before .verdict .given .1)) (told-sum _ _ _ (c .before .before .before .before .before .discharges .ensures) (c .before .before .before .before .decide .ensures) _ (c .before .before .verdict .given .1)) (c .refused3 .ensures)
+returns-3 c =
+    let at-verdict = c .before .before in
+    let at-decide = at-verdict .before .before in
+    let at-discharges = at-decide .before in
+    shares-unsettled _ _ _ (told-number _ _ _ (at-discharges .discharges .ensures) (at-decide .decide .ensures) _ (at-verdict .verdict .given .1)) (told-sum _ _ _ (at-discharges .discharges .ensures) (at-decide .decide .ensures) _ (at-verdict .verdict .given .1)) (c .refused3 .ensures)
 
 same-length : tie.Need-same-length
 same-length c = search needs
@@ -61,11 +75,16 @@ same-length-3 : tie.Need-same-length-3
 same-length-3 c = search needs
 
 returns-4 : tie.Need-returns-4
-returns-4 c = let r = c .before .before .before .before .before .before .before .before .before .before .before .before .before .before .before .before .decide .result in
-    let d = c .before .before .before .before .before .before .before .before .before .before .before .before .before .before .before .before .before .discharges .ensures in
-    let e = c .before .before .before .before .before .before .before .before .before .before .before .before .before .before .before .before .decide .ensures in
-    let v = c .before .before .before .before .before .before .before .before .before .before .before .before .before .before .verdict2 .given .1 in
-    shares-worked _ _ (told-number _ _ r d e _ v) (told-sum _ _ r d e _ v) (told-rounds _ _ r d e) (told-pairs _ _ r d e) (c .before .before .before .before .before .before .before .before .before .before .before .before .rows-of .ensures) (profiles _ _ _) (c .before .before .before .before .before .before .before .before .fill .ensures) (c .worked .ensures)
+returns-4 c =
+    let at-fill = c .before .before .before .before .before .before .before .before in
+    let at-rows-of = at-fill .before .before .before .before in
+    let at-verdict2 = at-rows-of .before .before in
+    let at-decide = at-verdict2 .before .before in
+    let r = at-decide .decide .result in
+    let d = at-decide .before .discharges .ensures in
+    let e = at-decide .decide .ensures in
+    let v = at-verdict2 .verdict2 .given .1 in
+    shares-worked _ _ (told-number _ _ r d e _ v) (told-sum _ _ r d e _ v) (told-rounds _ _ r d e) (told-pairs _ _ r d e) (at-rows-of .rows-of .ensures) (profiles _ _ _) (at-fill .fill .ensures) (c .worked .ensures)
 
 pub work-accepted-spec : {M : Type 1} → statement M
 work-accepted-spec =
