@@ -1,8 +1,9 @@
-// The README's examples, run: a record is filed with a title, found again, and worked.
+// The README's examples, run: a record is tested, filed with a title, found again, printed and worked.
 use archive_format::Answer;
 use discharge::Discharged;
 use libc::STDOUT_FILENO;
 use outcome::Outcome;
+use validation::Checked;
 
 // The paper's record 1: cycle 60, running time 40000 ms, headway 4100 ms, 360 veh/h in by access and out through.
 fn record() -> [u8; 68] {
@@ -34,16 +35,40 @@ fn tell(label: &[u8], answer: Answer) {
     }
 }
 
+fn read(archive: &[u8]) {
+    let count = archive_read::count(archive);
+    let place = archive_read::place(archive, 0);
+    let found = archive_read::find(archive, 1);
+    let title = archive_read::title(archive, 1);
+    tell(b"records ", count);
+    tell(b"place of the first: ", place);
+    tell(b"place of record 1: ", found);
+    io::write_all(STDOUT_FILENO, title);
+    io::write_all(STDOUT_FILENO, b"\n");
+}
+
+fn print(archive: &[u8]) {
+    let mut text = [0u8; 512];
+    let length = report::report(archive, &mut text);
+    if length <= 512 {
+        io::write_all(STDOUT_FILENO, &text[0..length]);
+    }
+}
+
 fn file(record: &[u8]) {
     let archive = archive_format::empty();
     let mut bigger = [0u8; 128];
     let added = archive_add::add(&archive, record, b"Elm Street", &mut bigger);
-    let found = archive_read::find(&bigger[0..87], 1);
-    let title = archive_read::title(&bigger[0..87], 1);
     tell(b"new length ", added);
-    tell(b"place of record 1: ", found);
-    io::write_all(STDOUT_FILENO, title);
-    io::write_all(STDOUT_FILENO, b"\n");
+    read(&bigger[0..87]);
+    print(&bigger[0..87]);
+}
+
+fn check(record: &[u8]) {
+    match validation::check(record) {
+        Checked::Valid(segment) => say(b"cycle ", segment.cycle as u64),
+        Checked::Refused(n) => say(b"refused ", n as u64),
+    }
 }
 
 fn discharge_of(record: &[u8]) {
@@ -73,6 +98,7 @@ fn work(record: &[u8]) {
 
 fn main() {
     let r = record();
+    check(&r);
     file(&r);
     discharge_of(&r);
     work(&r);
