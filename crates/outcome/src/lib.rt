@@ -27,7 +27,7 @@ pub struct Working {
     pub blocked: u32,
 }
 
-// A refusal tells nothing else.
+// A refusal: its outcome, and 0 for every figure.
 pub fn refused(outcome: Outcome) -> Working
     ensures { λ r. ⌜ r ≡ refusedWith outcome ⌝ }
 {

@@ -7,6 +7,7 @@ use lib.ListN.{length, drop, getD}
 use Rattle.movements.specs.Movements.{flowUnits}
 use Rattle.segment.specs.declared.Entry.{Entry}
 use Rattle.segment.specs.declared.Segment.{Segment}
+use Rattle.ranges.specs.Tests.{leastCycle, mostCycle}
 use Rattle.ranges.specs.Ranges.{Ranges, EntryRanges}
 use Rattle.metering.specs.Metering.{discharged}
 use Rattle.entries.specs.Entries.{entryProfile}
@@ -45,7 +46,7 @@ room-kept p p′ r eo ef es = record { output = omega (arith, r .output); first 
 
 pub record EntryAsks (running c : ℕ) (e : Entry) (row : List ℕ) (p : Profiles) : Type 0 where
   pub time : running ≤ runningLimit
-  pub cycle : (30 ≤ c) × (c ≤ 240)
+  pub cycle : (leastCycle ≤ c) × (c ≤ mostCycle)
   pub entry : EntryRanges c e
   pub shares : (j : ℕ) → getD row j 0 ≤ flowUnits (discharged c e)
   pub room : Room c p

@@ -11,6 +11,7 @@ use Rattle.text.specs.Text.{cursor, put, Wrote}
 use Rattle.text.specs.Appending.{put-append, put-nil}
 use Rattle.segment.specs.Layout.{size, cycleAt}
 use Rattle.segment.specs.Segment.{segmentOf}
+use Rattle.ranges.specs.Tests.{mostCycle}
 use Rattle.propagation.specs.Propagation.{Profiles}
 use Rattle.propagation.specs.Steps.{Room}
 use Rattle.outcome.specs.declared.Working.{Working}
@@ -27,7 +28,7 @@ use Rattle.report.specs.Working.{same-answer, longest-room}
 
 -- ---- one record
 
-pub worked-alone : (l : List ℕ) {p p′ : Profiles} {w : Working} → Room 240 p → Works l p w p′
+pub worked-alone : (l : List ℕ) {p p′ : Profiles} {w : Working} → Room mostCycle p → Works l p w p′
     → {number cycle : ℕ} → number ≡ word4 l 0 → cycle ≡ word2 l cycleAt
     → {b : List ℕ} {at : ℕ} {b′ : List ℕ} {q : ℕ} → Wrote b at (recordText number cycle w) b′ q → Wrote b at (segmentText l) b′ q
 unfolding segmentText segmentOf

@@ -3,6 +3,7 @@ ghost use mathlib.Core.Path.{_≡_};
 ghost use lib.ListN.{length};
 ghost use Rattle.text.specs.Text.{Wrote};
 ghost use Rattle.segment.specs.Layout.{size};
+ghost use Rattle.ranges.specs.Tests.{mostCycle};
 ghost use Rattle.propagation.specs.Propagation.{profiles};
 ghost use Rattle.propagation.specs.Steps.{Room};
 ghost use Rattle.archive_format.specs.Archive.{filedFrom};
@@ -21,7 +22,7 @@ fn segment_text(
     first: &mut [u32],
     second: &mut [u32],
 ) -> usize
-    requires { ⌜ (length (now bytes) ≡ size) × Room 240 (profiles (now output) (now first) (now second)) ⌝ }
+    requires { ⌜ (length (now bytes) ≡ size) × Room mostCycle (profiles (now output) (now first) (now second)) ⌝ }
     ensures { λ r. ⌜ Wrote (now (text .entry)) at (segmentText (now (bytes .entry))) (now (text .exit)) r ⌝ }
 {
     let number = octets::word4_at(bytes, segment::NUMBER_AT);
@@ -40,7 +41,7 @@ fn records_text(
     first: &mut [u32],
     second: &mut [u32],
 ) -> usize
-    requires { ⌜ Runs count (now archive) × Room 240 (profiles (now output) (now first) (now second)) ⌝ }
+    requires { ⌜ Runs count (now archive) × Room mostCycle (profiles (now output) (now first) (now second)) ⌝ }
     ensures { λ r. ⌜ Wrote (now (text .entry)) at (recordsText (filedFrom size count (now (archive .entry)) 0)) (now (text .exit)) r ⌝ }
 {
     let mut left = count;
@@ -63,7 +64,7 @@ fn archive_text(
     first: &mut [u32],
     second: &mut [u32],
 ) -> usize
-    requires { ⌜ Room 240 (profiles (now output) (now first) (now second)) ⌝ }
+    requires { ⌜ Room mostCycle (profiles (now output) (now first) (now second)) ⌝ }
     ensures { λ r. ⌜ Wrote (now (text .entry)) at (archiveText (now (archive .entry))) (now (text .exit)) r ⌝ }
 {
     let opened = open(SEGMENTS, archive);
@@ -85,7 +86,7 @@ pub(crate) fn input_text(
     first: &mut [u32],
     second: &mut [u32],
 ) -> usize
-    requires { ⌜ Room 240 (profiles (now output) (now first) (now second)) ⌝ }
+    requires { ⌜ Room mostCycle (profiles (now output) (now first) (now second)) ⌝ }
     ensures { λ r. ⌜ Wrote (now (text .entry)) at (inputText (now (archive .entry))) (now (text .exit)) r ⌝ }
 {
     if INPUT_LIMIT < archive.len() {
