@@ -2,6 +2,7 @@
 -- Paper 01's words: an archive is a drawer, a segment record a card.
 use Prim.Native.Nat.{ℕ, zero, suc, _+_, _*_, _-_, _≤_}
 use mathlib.Core.Bool.{Bool, true, _&&_, cond}
+use mathlib.Core.Path.{_≡_}
 use mathlib.Core.List.{List, [], _∷_, _++_}
 use lib.Dec.{leb, ltb, eqb}
 use lib.ListN.{length, take, drop, getD}
@@ -179,6 +180,11 @@ newLength x = answerOf (andThen x (λ new. ok (length new)))
 abbrev pub overwrite : Or (List ℕ) → List ℕ → List ℕ
 overwrite (refused n) out = out
 overwrite (ok new) out = new ++ drop (length new) out
+
+-- a call that writes bytes to a lent buffer, or refuses: its answer, and the buffer afterwards
+pub record Writes (x : Or (List ℕ)) (before : List ℕ) (r : Answer) (after : List ℕ) : Type 0 where
+  pub answer : r ≡ newLength x
+  pub buffer : after ≡ overwrite x before
 
 -- ---- the first edition: records of 68 bytes, mark "DR"
 

@@ -1,7 +1,8 @@
 -- Demand 3: how near a working in whole flow units stays to the exact one, what its dispersion keeps, and what its pairs have of their entry.
 use Prim.Native.Nat.{ℕ, _+_, _-_, _*_, _≤_, _<_}
+use mathlib.Core.Path.{_≡_}
 use mathlib.Core.List.{List}
-use lib.ListN.{getD}
+use lib.ListN.{take, getD}
 use Rattle.lists.specs.Lists.{sum}
 use Rattle.movements.specs.Movements.{flowUnits}
 use Rattle.signal.specs.Turn.{earlier}
@@ -13,8 +14,8 @@ use Rattle.dispersion.specs.Dispersion.{arrivalTimeOf}
 use Rattle.pair_parts.specs.PairParts.{Shared}
 use Rattle.exact.specs.Fraction.{Fraction, Within}
 use Rattle.exact.specs.Exact.{exactPair, exactExit}
-use Rattle.exact_dispersion.specs.ExactDispersion.{exactReported, EntryBalanced}
-use Rattle.propagation.specs.Propagation.{cycles, pairFlow, entryArrivals, pairOf}
+use Rattle.exact_dispersion.specs.ExactDispersion.{exactReported, departed, arrived, Balanced}
+use Rattle.propagation.specs.Propagation.{Profiles, cycles, pairFlow, entryArrivals, pairOf, landsIn}
 
 -- what an exit exactly has of an entry in discharge step i of the reported cycle
 unfoldable pub exactOf : Segment → Entry → (v i : ℕ) → Fraction
@@ -29,19 +30,40 @@ exactAt s rows exit step =
     (exactOf s (s .right) (pairFlow rows 2 exit) i)
     (pairFlow rows 3 exit)
 
--- one signalised entry, v the pair flow of each exit
-pub record EntryHolds (s : Segment) (e : Entry) (v : ℕ → ℕ) : Type 0 where
-  -- N·(discharged - arrived) - (D-N)·(last step's arrival) is from 0 to D - 1, over all cycles worked
-  pub balanced : EntryBalanced (s .running) (entryProfile (s .cycle) e) cycles
+-- number `step` of an exit's run in the output that a call left
+unfoldable pub outputAt : Segment → Profiles → (exit step : ℕ) → ℕ
+outputAt s p exit step = getD (p .output) (exit * s .cycle + (step - 1)) 0
+
+-- the right entry as the work profiles hold it: its arrivals in the last cycle, and the sum of those of all cycles worked
+unfoldable pub lastCycleIn : Segment → Profiles → List ℕ
+lastCycleIn s p = take (s .cycle) (p .second)
+
+unfoldable pub arrivedIn : Segment → Profiles → ℕ
+arrivedIn s p = sum (take (s .cycle) (p .first)) + sum (take (s .cycle) (p .second))
+
+-- one signalised entry, v the pair flow of each exit: what arrived over all cycles worked, and the arrivals of the last
+pub record EntryHolds (s : Segment) (e : Entry) (v : ℕ → ℕ) (all : ℕ) (last : List ℕ) : Type 0 where
+  -- N·(discharged - arrived) - (D-N)·(last step's arrival) is from 0 to D - 1
+  pub balanced : Balanced (s .running) (departed (entryProfile (s .cycle) e) cycles) all (getD last (s .cycle - 1) 0)
   -- where it discharges: a pair's arrivals in the reported cycle never exceed v/(1000·O) of the entry's, and fall short of it by less than one
   pub shared : 0 < discharged (s .cycle) e → (exit : ℕ) → exit < 4 →
-      Shared (v exit) (flowUnits (discharged (s .cycle) e)) (sum (entryArrivals s e)) (sum (pairOf s e (v exit)))
+      Shared (v exit) (flowUnits (discharged (s .cycle) e)) (sum last) (sum (pairOf s e (v exit)))
 
--- the whole demand, of a segment with its sixteen pair flows and an output profile
-pub record Demand3 (s : Segment) (rows : List (List ℕ)) (output : List ℕ) : Type 0 where
-  -- number `step` of each exit's run differs from the exact flow by less than six
-  pub flows : (exit step : ℕ) → exit < 4 → 0 < step → step ≤ s .cycle →
-      Within 6 (getD output (exit * s .cycle + (step - 1)) 0) (exactAt s rows exit step)
-  pub left : EntryHolds s (s .left) (pairFlow rows 0)
-  pub through : EntryHolds s (s .through) (pairFlow rows 1)
-  pub right : EntryHolds s (s .right) (pairFlow rows 2)
+-- an entry whose arrivals no profile keeps: those of dispersion
+abbrev pub EntryMeets : Segment → Entry → (ℕ → ℕ) → Type 0
+EntryMeets s e v = EntryHolds s e v (arrived (s .running) (entryProfile (s .cycle) e) cycles) (entryArrivals s e)
+
+-- the whole demand, of a segment with its sixteen pair flows and the three profiles that a call left
+pub record Demand3 (s : Segment) (rows : List (List ℕ)) (p : Profiles) : Type 0 where
+  -- an exit's flow in a step differs from the exact one by less than six
+  pub flows : (exit step : ℕ) → exit < 4 → 0 < step → step ≤ s .cycle → Within 6 (outputAt s p exit step) (exactAt s rows exit step)
+  -- it is access's v and what the pairs land there, whose sums `shared` bounds
+  pub landed : (exit step : ℕ) → exit < 4 → 0 < step → step ≤ s .cycle → outputAt s p exit step
+      ≡ pairFlow rows 3 exit
+      + landsIn s (s .left) (pairFlow rows 0 exit) step
+      + landsIn s (s .through) (pairFlow rows 1 exit) step
+      + landsIn s (s .right) (pairFlow rows 2 exit) step
+  pub left : EntryMeets s (s .left) (pairFlow rows 0)
+  pub through : EntryMeets s (s .through) (pairFlow rows 1)
+  -- the right entry's arrivals are those that the work profiles hold
+  pub right : EntryHolds s (s .right) (pairFlow rows 2) (arrivedIn s p) (lastCycleIn s p)

@@ -1,9 +1,10 @@
 -- Demand 3 holds of every filling: its parts are the laws of exact and pair_parts, at the definitions of the working.
 use Prim.Native.Nat.{ℕ, suc, _+_, _-_, _*_, _≤_, _<_}
 use native.Mathlib.Omega.{arith}
-use mathlib.Core.Path.{_≡_, _∙_}
-use mathlib.Core.List.{List}
-use lib.ListN.{length, drop, getD}
+use mathlib.Core.Path.{_≡_, ap, sym, _∙_}
+use mathlib.Core.List.{List, _++_}
+use lib.ListN.{length, take, drop, getD}
+use lib.Seq.{take-at}
 use Rattle.movements.specs.Movements.{flowUnits}
 use Rattle.signal.specs.Turn.{earlier, earlier-pos, earlier-le}
 use Rattle.signal.specs.Landing.{landing-is}
@@ -12,17 +13,17 @@ use Rattle.segment.specs.declared.Segment.{Segment}
 use Rattle.metering.specs.Metering.{discharged}
 use Rattle.entries.specs.Entries.{entryProfile}
 use Rattle.entries.specs.Laws.{entry-length}
-use Rattle.dispersion.specs.Dispersion.{arrivalTimeOf}
+use Rattle.dispersion.specs.Dispersion.{arrivalTimeOf, reported}
 use Rattle.dispersion.specs.Cycles.{reported-length}
 use Rattle.pair_parts.specs.Laws.{pair-length, pair-shared}
 use Rattle.exact.specs.Fraction.{Within}
 use Rattle.exact.specs.Exit.{pair-within, exit-within}
-use Rattle.exact_dispersion.specs.ExactDispersion.{exactReported}
-use Rattle.exact_dispersion.specs.Laws.{reported-within, entry-balanced}
+use Rattle.exact_dispersion.specs.ExactDispersion.{exactReported, arrived, lastArrival}
+use Rattle.exact_dispersion.specs.Laws.{reported-within, entry-balanced, arrived-two}
 use Rattle.arrivals.specs.Laws.{number-of}
 use Rattle.propagation.specs.Propagation.{Profiles, cycles, pairFlow, entryArrivals, pairOf, landsIn, flowAt, filledOf}
 use Rattle.propagation.specs.Steps.{RowsFit}
-use Rattle.demand3.specs.Demand3.{exactOf, exactAt, EntryHolds, Demand3}
+use Rattle.demand3.specs.Demand3.{exactOf, exactAt, outputAt, lastCycleIn, arrivedIn, EntryMeets, Demand3}
 
 module _ (s : Segment) (e : Entry) where
   arrivals-length : length (entryArrivals s e) ≡ s .cycle
@@ -53,11 +54,13 @@ module _ (s : Segment) (e : Entry) where
       rw (landing-is c t step (pairOf s e v) pos fits (omega (arith, pair-length v w (entryArrivals s e))))
       (pair-within v w (entryArrivals s e) before h (omega arith) (arrival-within before i n inside))
 
-  entry-holds : (v : ℕ → ℕ) → EntryHolds s e v
-  unfolding pairOf
-  entry-holds v =
+  entry-meets : (v : ℕ → ℕ) → EntryMeets s e v
+  unfolding entryArrivals pairOf lastArrival
+  entry-meets v =
+      let q = entryProfile (s .cycle) e in
+      let last : s .cycle ≡ length q = sym (entry-length (s .cycle) e) in
       record {
-        balanced = entry-balanced (s .running) (entryProfile (s .cycle) e) 1;
+        balanced = rw (ap (λ (n : ℕ). getD (reported (s .running) q cycles) (n - 1) 0) last) (entry-balanced (s .running) q 1);
         shared = λ pos exit h. pair-shared (v exit) (flowUnits (discharged (s .cycle) e)) (entryArrivals s e) (omega arith);
       }
 
@@ -76,14 +79,36 @@ flow-within s rows fit exit step first last =
     (lands-within s (s .through) (pairFlow rows 1 exit) step (fit .through exit) first last)
     (lands-within s (s .right) (pairFlow rows 2 exit) step (fit .right exit) first last))
 
--- of the output that a filling leaves
-pub demand-3 : (s : Segment) (rows : List (List ℕ)) (p : Profiles) → RowsFit s rows → Demand3 s rows (filledOf s rows p .output)
-unfolding filledOf
-demand-3 s rows p fit =
-    record {
-      flows = λ exit step h first last.
-          rw (number-of (s .cycle) (flowAt s rows) (drop (4 * s .cycle) (p .output)) exit step h first last) (flow-within s rows fit exit step first last);
-      left = entry-holds s (s .left) (pairFlow rows 0);
-      through = entry-holds s (s .through) (pairFlow rows 1);
-      right = entry-holds s (s .right) (pairFlow rows 2);
-    }
+-- ---- what a filling leaves
+
+module _ (s : Segment) (rows : List (List ℕ)) (p : Profiles) where
+  output-is : (exit step : ℕ) → exit < 4 → 0 < step → step ≤ s .cycle → outputAt s (filledOf s rows p) exit step ≡ flowAt s rows exit step
+  unfolding outputAt filledOf
+  output-is exit step h first last = number-of (s .cycle) (flowAt s rows) (drop (4 * s .cycle) (p .output)) exit step h first last
+
+  -- the front of a work profile is a cycle of the right entry
+  cycle-front : (k : ℕ) (rest : List ℕ) → take (s .cycle) (reported (s .running) (entryProfile (s .cycle) (s .right)) (suc k) ++ rest)
+      ≡ reported (s .running) (entryProfile (s .cycle) (s .right)) (suc k)
+  cycle-front k rest =
+      take-at _ rest (s .cycle) (reported-length (s .running) (entryProfile (s .cycle) (s .right)) k ∙ entry-length (s .cycle) (s .right))
+
+  last-cycle-is : lastCycleIn s (filledOf s rows p) ≡ entryArrivals s (s .right)
+  unfolding lastCycleIn filledOf entryArrivals
+  last-cycle-is = cycle-front 1 (drop (s .cycle) (p .second))
+
+  arrived-is : arrivedIn s (filledOf s rows p) ≡ arrived (s .running) (entryProfile (s .cycle) (s .right)) cycles
+  unfolding arrivedIn filledOf
+  arrived-is =
+      rw (cycle-front 0 (drop (s .cycle) (p .first)), cycle-front 1 (drop (s .cycle) (p .second)))
+      (sym (arrived-two (s .running) (entryProfile (s .cycle) (s .right))))
+
+  pub demand-3 : RowsFit s rows → Demand3 s rows (filledOf s rows p)
+  unfolding flowAt
+  demand-3 fit =
+      record {
+        flows = λ exit step h first last. rw (output-is exit step h first last) (flow-within s rows fit exit step first last);
+        landed = output-is;
+        left = entry-meets s (s .left) (pairFlow rows 0);
+        through = entry-meets s (s .through) (pairFlow rows 1);
+        right = rw (arrived-is, last-cycle-is) (entry-meets s (s .right) (pairFlow rows 2));
+      }

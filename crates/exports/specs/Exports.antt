@@ -48,7 +48,7 @@ toldOf w =
 pub record WorksTold (l : List ℕ) (p : Profiles) (r : WorkTold) (p′ : Profiles) : Type 0 where
   pub answer : r ≡ toldOf (callOf l p .answer)
   pub after : p′ ≡ callOf l p .after
-  pub demand : r .number ≡ 0 → Demand3 (segmentOf l) (r .pairs .rows) (p′ .output)
+  pub demand : r .number ≡ 0 → Demand3 (segmentOf l) (r .pairs .rows) p′
 
 abbrev pub volumesOf : Discharged → VolumesTold
 volumesOf (RefusedVolumes n) = record { number = n; left = 0; through = 0; right = 0 }

@@ -70,10 +70,10 @@ works-told l p w p′ r works e =
       demand = λ z. demanded (call-worked l p (sym (ap (λ (v : Working). numberOf (v .outcome)) same) ∙ sym (ap (λ (t : WorkTold). t .number) e) ∙ z));
     }
   where
-    demanded : WorkedAt (callOf l p) → Demand3 (segmentOf l) (r .pairs .rows) (p′ .output)
+    demanded : WorkedAt (callOf l p) → Demand3 (segmentOf l) (r .pairs .rows) p′
     demanded a =
         let d = works .demand (a .sum) (ap (λ (c : Called). c .answer .outcome) (works .is) ∙ a .is) in
-        subst (λ (rows : List (List ℕ)). Demand3 (segmentOf l) rows (p′ .output)) (sym (ap (λ (t : WorkTold). t .pairs .rows) e)) d
+        subst (λ (rows : List (List ℕ)). Demand3 (segmentOf l) rows p′) (sym (ap (λ (t : WorkTold). t .pairs .rows) e)) d
 
 abbrev pub partOf : TitleTold → List ℕ → List ℕ
 partOf t l = take (t .length) (drop (t .place) l)

@@ -7,6 +7,7 @@ use mathlib.Core.List.{List}
 use Rattle.refusal.specs.Refusal.{Or, refused, ok, need, need-passed, need-rest, need-number, andThen}
 use Rattle.segment.specs.Segment.{segmentOf}
 use Rattle.segment.specs.declared.Segment.{Segment}
+use Rattle.ranges.specs.Tests.{seedsAdd}
 use Rattle.validation.specs.declared.Checked.the-variants.{Refused, Valid}
 use Rattle.validation.specs.Validation.{checkOf, checkedOf}
 use Rattle.validation.specs.Accepted.{Accepted, accepted}
@@ -26,18 +27,22 @@ checked-valid (ok t) s e = cc
 ok-refused : {P : Type 0} (s : Segment) (n : ℕ) → _≡_ {A = Or Segment} (ok s) (refused n) → P
 ok-refused s n e = let z : _≡_ {A = ℕ} 0 1 = cc in absurd (omega arith)
 
--- the record's refusals are 6 to 12
-pub check-numbers : (P : ℕ → Type 0) → ((n : ℕ) → 6 ≤ n → n ≤ 12 → P n) → (l : List ℕ) (n : ℕ) → checkOf l ≡ refused n → P n
+-- the record's refusals are 6 to 11, and 12 where a row of seeds does not add
+pub check-by : (P : ℕ → Type 0) → ((n : ℕ) → 6 ≤ n → n ≤ 11 → P n) → (l : List ℕ) → (seedsAdd (segmentOf l .seeds) ≡ false → P 12) →
+    (n : ℕ) → checkOf l ≡ refused n → P n
 unfolding checkOf
-check-numbers P low l n e =
-    need-number P 6 _ _ n (low 6 (omega arith) (omega arith))
-    (need-number P 7 _ _ n (low 7 (omega arith) (omega arith))
-    (need-number P 8 _ _ n (low 8 (omega arith) (omega arith))
-    (need-number P 9 _ _ n (low 9 (omega arith) (omega arith))
-    (need-number P 10 _ _ n (low 10 (omega arith) (omega arith))
-    (need-number P 11 _ _ n (low 11 (omega arith) (omega arith))
-    (need-number P 12 _ _ n (low 12 (omega arith) (omega arith)) (λ r. ok-refused (segmentOf l) n r)))))))
+check-by P low l last n e =
+    need-number P 6 _ _ n (λ _. low 6 (omega arith) (omega arith))
+    (need-number P 7 _ _ n (λ _. low 7 (omega arith) (omega arith))
+    (need-number P 8 _ _ n (λ _. low 8 (omega arith) (omega arith))
+    (need-number P 9 _ _ n (λ _. low 9 (omega arith) (omega arith))
+    (need-number P 10 _ _ n (λ _. low 10 (omega arith) (omega arith))
+    (need-number P 11 _ _ n (λ _. low 11 (omega arith) (omega arith))
+    (need-number P 12 _ _ n last (λ r. ok-refused (segmentOf l) n r)))))))
     e
+
+pub check-numbers : (P : ℕ → Type 0) → ((n : ℕ) → 6 ≤ n → n ≤ 12 → P n) → (l : List ℕ) (n : ℕ) → checkOf l ≡ refused n → P n
+check-numbers P low l n e = check-by P (λ m a b. low m a (omega arith)) l (λ _. low 12 (omega arith) (omega arith)) n e
 
 module _ (l : List ℕ) (fits : Segment → Bool) where
   pub accept-refused : (n : ℕ) → checkedOf (checkOf l) ≡ Refused n → Refused n ≡ checkedOf (acceptWith l fits)
@@ -72,4 +77,4 @@ module _ (l : List ℕ) (fits : Segment → Bool) where
     where
       go : (x : Or Segment) → checkOf l ≡ x → andThen x (λ t. need 16 (fits t) (ok t)) ≡ refused n → P n
       go (refused m) q f = check-numbers P low l n (q ∙ f)
-      go (ok t) q f = need-number P 16 (fits t) (ok t) n last (λ r. ok-refused t n r) f
+      go (ok t) q f = need-number P 16 (fits t) (ok t) n (λ _. last) (λ r. ok-refused t n r) f

@@ -102,14 +102,14 @@ module _ (l : List ℕ) (p : Profiles) where
   worked-demand : (s : Segment) → accepts ≡ ok s → (t : Bool) → eqb (sharingOf s .number) 0 ≡ t → (w : Working) (p′ : Profiles) →
       called w p′ ≡ cond t (called (workedOf s (sharingOf s)) (filledOf s (sharingOf s .pairs) p))
       (called (refusedWith (cond t (Worked (sharingOf s .sum)) (cond (eqb (sharingOf s .number) 15) (Unsettled (sharingOf s .sum)) (Refused (sharingOf s .number))))) p) →
-      (x : Float) → w .outcome ≡ Worked x → Demand3 (segmentOf l) (w .pairs .rows) (p′ .output)
+      (x : Float) → w .outcome ≡ Worked x → Demand3 (segmentOf l) (w .pairs .rows) p′
   unfolding workedOf
   worked-demand s a true e w p′ q x o =
       let z = eqb-true (sharingOf s .number) 0 e in
       let rows : w .pairs .rows ≡ sharingOf s .pairs = ap (λ (c : Called). c .answer .pairs .rows) q in
-      let out : p′ .output ≡ filledOf s (sharingOf s .pairs) p .output = ap (λ (c : Called). c .after .output) q in
-      subst (λ (u : Segment). Demand3 u (w .pairs .rows) (p′ .output)) (passed s a .0 .is)
-      (rw (rows, out) (demand-3 s (sharingOf s .pairs) p (rows-fit s z)))
+      let left : p′ ≡ filledOf s (sharingOf s .pairs) p = ap (λ (c : Called). c .after) q in
+      subst (λ (u : Segment). Demand3 u (w .pairs .rows) p′) (passed s a .0 .is)
+      (rw (rows, left) (demand-3 s (sharingOf s .pairs) p (rows-fit s z)))
   worked-demand s a false e w p′ q x o =
       absurd (never (eqb (sharingOf s .number) 15) (sharingOf s .sum) x (sharingOf s .number) (sym (ap (λ (c : Called). c .answer .outcome) q) ∙ o))
 

@@ -59,4 +59,4 @@ callOf l p = byRecord (acceptOf l (length (p .output)) (length (p .first)) (leng
 -- the call as called: its answer and all three profiles, and demand 3 of every record and all profiles that it accepts
 pub record Works (l : List ℕ) (p : Profiles) (r : Working) (p′ : Profiles) : Type 0 where
   pub is : called r p′ ≡ callOf l p
-  pub demand : (x : Float) → r .outcome ≡ Worked x → Demand3 (segmentOf l) (r .pairs .rows) (p′ .output)
+  pub demand : (x : Float) → r .outcome ≡ Worked x → Demand3 (segmentOf l) (r .pairs .rows) p′
