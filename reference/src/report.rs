@@ -10,6 +10,9 @@ use crate::working::{work, Working};
 /// Input longer than this is refused whatever it holds.
 pub const INPUT_MOST: usize = 65536;
 
+/// A lent buffer under this is refused: with this room no text is cut.
+pub const TEXT_ROOM: usize = 262_144;
+
 const STEPS: usize = CYCLE_MOST as usize;
 
 /// Appends the report of an archive to `text`.
@@ -35,6 +38,17 @@ pub fn report(input: &[u8], text: &mut Vec<u8>) {
             ),
         }
     }
+}
+
+/// The report of an archive to the front of a lent buffer; its length is returned, and bytes beyond stay.
+pub fn report_to(input: &[u8], buffer: &mut [u8]) -> Result<usize, Refusal> {
+    if buffer.len() < TEXT_ROOM {
+        return Err(refusal::BUFFER);
+    }
+    let mut text = Vec::new();
+    report(input, &mut text);
+    buffer[..text.len()].copy_from_slice(&text);
+    Ok(text.len())
 }
 
 /// Writing to a vector does not fail.

@@ -68,7 +68,8 @@ fn next_differs() -> bool {
 }
 
 fn main() {
-    let cases = vectors::read_word();
+    let mut word = [0u8; 4];
+    let cases = vectors::read_word(&mut word);
     let mut differing: u32 = 0;
     let mut i: u32 = 0;
     while i < cases {
@@ -77,5 +78,6 @@ fn main() {
         }
         i += 1;
     }
-    vectors::finish(cases, differing);
+    let mut line = [0u8; 64];
+    vectors::finish(&mut line, cases, differing);
 }

@@ -1,6 +1,6 @@
 -- Platoon dispersion, from 30-11 and 30-12 with steps of one second. Running times are in milliseconds.
 use Prim.Native.Nat.{ℕ, zero, suc, _+_, _-_, _*_, _/_, _%_}
-use mathlib.Core.Bool.{cond}
+use mathlib.Core.Bool.{Bool, cond}
 use mathlib.Core.List.{List, [], _∷_, _++_}
 use lib.Dec.{eqb}
 use lib.ListN.{length, take, drop}
@@ -80,6 +80,10 @@ cyclesWorked running q zero f g = work emptyState f g
 cyclesWorked running q (suc k) f g =
     cond (eqb (k % 2) 0) (intoFirst running q (cyclesWorked running q k f g)) (intoSecond running q (cyclesWorked running q k f g))
 
--- the part that holds the last of so many cycles: in the first profile where their number is odd
+-- the first profile holds the last of so many cycles where their number is odd
+abbrev pub firstHolds : ℕ → Bool
+firstHolds cycles = eqb (cycles % 2) 1
+
+-- the part that holds it
 unfoldable pub lastPart : List ℕ → List ℕ → ℕ → ℕ → List ℕ
-lastPart f g cycles steps = cond (eqb (cycles % 2) 1) (take steps f) (take steps g)
+lastPart f g cycles steps = cond (firstHolds cycles) (take steps f) (take steps g)

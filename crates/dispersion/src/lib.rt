@@ -3,7 +3,7 @@
 ghost use mathlib.Core.Path.{_≡_};
 ghost use Prim.Native.Nat.{_≤_, _<_};
 ghost use lib.ListN.{length};
-ghost use Rattle.dispersion.specs.Dispersion.{runningLimit, divisorOf, arrivalTimeOf, stepOf, stateAfter, cycleWritten, work, cyclesWorked, lastPart};
+ghost use Rattle.dispersion.specs.Dispersion.{runningLimit, divisorOf, arrivalTimeOf, stepOf, stateAfter, cycleWritten, work, cyclesWorked, firstHolds, lastPart};
 
 // The numerator of the smoothing factor (N of the paper); the divisor stands under it.
 const SMOOTHING: u64 = 500000;
@@ -94,12 +94,19 @@ pub fn alternate(
     state
 }
 
-// The part that holds the last cycle: the first so many steps of the profile that it went to.
+// Whether the first profile holds the last of so many cycles; otherwise the second does.
+pub fn first_holds(cycles: u32) -> bool
+    ensures { λ r. ⌜ r ≡ firstHolds cycles ⌝ }
+{
+    cycles % 2 == 1
+}
+
+// The part that holds the last cycle: the first so many steps of the profile that `first_holds` says.
 pub fn last_cycle<'a>(first: &'a [u32], second: &'a [u32], cycles: u32, steps: usize) -> &'a [u32]
     requires { ⌜ (steps ≤ length (now first)) × (steps ≤ length (now second)) ⌝ }
     ensures { λ r. ⌜ now r ≡ lastPart (now (first .entry)) (now (second .entry)) cycles steps ⌝ }
 {
-    if cycles % 2 == 1 {
+    if first_holds(cycles) {
         return &first[0..steps];
     }
     &second[0..steps]

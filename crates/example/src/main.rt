@@ -47,11 +47,14 @@ fn read(archive: &[u8]) {
     io::write_all(STDOUT_FILENO, b"\n");
 }
 
-fn print(archive: &[u8]) {
-    let mut text = [0u8; 512];
-    let length = report::report(archive, &mut text);
-    if length <= 512 {
-        io::write_all(STDOUT_FILENO, &text[0..length]);
+// The text of an archive, or the refusal of a buffer that is too short for every text.
+fn print(archive: &[u8], text: &mut [u8]) {
+    let answer = report::report(archive, text);
+    match answer {
+        Answer::Is(n) => {
+            io::write_all(STDOUT_FILENO, &text[0..n]);
+        }
+        Answer::Refused(n) => say(b"refused ", n as u64),
     }
 }
 
@@ -61,7 +64,10 @@ fn file(record: &[u8]) {
     let added = archive_add::add(&archive, record, b"Elm Street", &mut bigger);
     tell(b"new length ", added);
     read(&bigger[0..87]);
-    print(&bigger[0..87]);
+    let mut short = [0u8; 512];
+    print(&bigger[0..87], &mut short);
+    let mut text = [0u8; report::TEXT_ROOM];
+    print(&bigger[0..87], &mut text);
 }
 
 fn check(record: &[u8]) {

@@ -7,8 +7,7 @@ ghost use Rattle.outcome.specs.Outcome.{numberOf};
 ghost use Rattle.discharge.specs.Discharge.{acceptOf, profileAfter};
 ghost use Rattle.discharge.specs.Discharge.{answerOf as volumesAnswer};
 ghost use Rattle.archive_format.specs.Archive.{addOf, answerOf, countOf, findOf, newLength, overwrite, placeOf, segments};
-ghost use Rattle.text.specs.Text.{Wrote};
-ghost use Rattle.report.specs.Report.{inputText};
+ghost use Rattle.report.specs.Report.{reportOf};
 ghost use Rattle.exports.specs.Exports.{WorksTold, sumOf, toldOf, volumesOf, valueOf, titlePartOf};
 use archive_format::Answer;
 use discharge::Discharged;
@@ -216,10 +215,11 @@ pub extern "C" fn archive_add(
     value(archive_add::add(archive, bytes, title, buffer))
 }
 
-// `report::report`.
+// `report::report`: 17 where the buffer is under 262144 bytes.
 #[no_mangle]
-pub extern "C" fn archive_report(archive: &[u8], text: &mut [u8]) -> usize
-    ensures { λ r. ⌜ Wrote (now (text .entry)) 0 (inputText (now (archive .entry))) (now (text .exit)) r ⌝ }
+pub extern "C" fn archive_report(archive: &[u8], text: &mut [u8]) -> ValueTold
+    ensures { λ r. ⌜ r ≡ valueOf (newLength (reportOf (now (archive .entry)) (length (now (text .entry))))) ⌝ }
+    ensures { λ _. ⌜ now (text .exit) ≡ overwrite (reportOf (now (archive .entry)) (length (now (text .entry)))) (now (text .entry)) ⌝ }
 {
-    report::report(archive, text)
+    value(report::report(archive, text))
 }

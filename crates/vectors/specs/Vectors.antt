@@ -1,12 +1,13 @@
 -- What the test programs compare.
 use Prim.Native.Nat.{ℕ, _+_}
 use mathlib.Core.Bool.{Bool, false, _||_, not}
-use mathlib.Core.List.{List, [], _∷_}
+use mathlib.Core.List.{List, [], _∷_, _++_}
 use lib.Dec.{eqb}
 use lib.Ieee.{Float, binary64, toBits}
 use lib.ListN.{getD}
 use Rattle.octets.specs.Octets.{word4, word8}
 use Rattle.lists.specs.Lists.{tab}
+use Rattle.text.specs.Text.{decimal, field}
 
 -- a lent profile before a call: each place its own number
 unfoldable pub pattern : ℕ → ℕ → List ℕ
@@ -36,3 +37,10 @@ rowsDiffer l at rows =
 -- the eight bytes from a place on are not a float's bits
 unfoldable pub floatDiffers : List ℕ → ℕ → Float → Bool
 floatDiffers l at x = not (eqb (word8 l at) (toBits binary64 x))
+
+-- N cases, M differs
+unfoldable pub closingLine : ℕ → ℕ → List ℕ
+closingLine cases differing =
+    decimal cases
+    ++ field (32 ∷ 99 ∷ 97 ∷ 115 ∷ 101 ∷ 115 ∷ 44 ∷ 32 ∷ []) differing
+    ++ (32 ∷ 100 ∷ 105 ∷ 102 ∷ 102 ∷ 101 ∷ 114 ∷ 115 ∷ 10 ∷ [])

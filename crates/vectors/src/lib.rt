@@ -3,24 +3,27 @@ ghost use mathlib.Core.Path.{_≡_};
 ghost use Prim.Native.Nat.{_+_, _-_, _*_, _≤_, _<_, _^_};
 ghost use lib.Ieee.{binary64, toBits};
 ghost use lib.ListN.{length};
-ghost use Rattle.vectors.specs.Vectors.{floatDiffers, pattern, rowDiffers, rowsDiffer, wordsDiffer};
+ghost use Rattle.octets.specs.Octets.{word4};
+ghost use Rattle.text.specs.Text.{Wrote};
+ghost use Rattle.vectors.specs.Vectors.{closingLine, floatDiffers, pattern, rowDiffers, rowsDiffer, wordsDiffer};
 use libc::STDIN_FILENO;
 use libc::STDOUT_FILENO;
 
-// The next four bytes as a number; 0 where the input ends.
-pub fn read_word() -> u32
-    ensures { λ r. ⌜ r < 2 ^ 32 ⌝ }
+// The next four bytes of the input, to the front of a lent buffer, as a number.
+pub fn read_word(word: &mut [u8]) -> u32
+    requires { ⌜ 4 ≤ length (now word) ⌝ }
+    ensures { λ r. ⌜ r ≡ word4 (now (word .exit)) 0 ⌝ }
 {
-    let mut word = [0u8; 4];
-    io::read_full(STDIN_FILENO, &mut word);
-    octets::word4_at(&word, 0)
+    io::read_full(STDIN_FILENO, &mut word[0..4]);
+    octets::word4_at(&word[..], 0)
 }
 
-// The body of the next case, in the front of a buffer: no more than fits.
+// The body of the next case, in the front of a buffer: no more than fits. What is read no contract can say.
 pub fn read_case(body: &mut [u8]) -> usize
-    ensures { λ r. ⌜ r ≤ length (now (body .entry)) ⌝ }
+    ensures { λ r. ⌜ r ≤ length (now (body .exit)) ⌝ }
 {
-    let n = read_word() as usize;
+    let mut word = [0u8; 4];
+    let n = read_word(&mut word) as usize;
     if body.len() < n {
         return 0;
     }
@@ -31,26 +34,33 @@ pub fn read_case(body: &mut [u8]) -> usize
     n
 }
 
-fn say(text: &[u8], n: u32) {
-    io::write_all(STDOUT_FILENO, text);
-    io::print_decimal(STDOUT_FILENO, n as u64);
-}
-
 // Says that a case differs, and returns one more than the number that did before.
 pub fn differing(i: u32, before: u32) -> u32
     requires { ⌜ before < 2 ^ 32 - 1 ⌝ }
     ensures { λ r. ⌜ r ≡ before + 1 ⌝ }
 {
-    say(b"case ", i);
+    io::write_all(STDOUT_FILENO, b"case ");
+    io::print_decimal(STDOUT_FILENO, i as u64);
     io::write_all(STDOUT_FILENO, b" differs\n");
     before + 1
 }
 
-// Says how many cases there were and how many of them differ.
-pub fn finish(cases: u32, differing: u32) {
-    say(b"", cases);
-    say(b" cases, ", differing);
-    io::write_all(STDOUT_FILENO, b" differs\n");
+// How many cases there were and how many of them differ, in the front of a lent buffer; the length is handed back.
+fn closing_line(line: &mut [u8], cases: u32, differing: u32) -> usize
+    ensures { λ r. ⌜ Wrote (now (line .entry)) 0 (closingLine cases differing) (now (line .exit)) r ⌝ }
+{
+    let p = text::append_decimal(line, 0, cases as u64);
+    let q = text::append_field(line, p, b" cases, ", differing as u64);
+    text::append_bytes(line, q, b" differs\n")
+}
+
+// Writes the closing line, and leaves it in the lent buffer.
+pub fn finish(line: &mut [u8], cases: u32, differing: u32) -> usize
+    ensures { λ r. ⌜ Wrote (now (line .entry)) 0 (closingLine cases differing) (now (line .exit)) r ⌝ }
+{
+    let n = closing_line(line, cases, differing);
+    io::write_all(STDOUT_FILENO, &line[..n]);
+    n
 }
 
 // A profile as it is lent: place i holds first + i.

@@ -4,7 +4,7 @@ use reference::archive::{add, find, read, title, COUNT_MOST, MARK, TITLE_MOST};
 use reference::random::Random;
 use reference::record::{CYCLE_LEAST, CYCLE_MOST, NUMBER_AT, RECORD_BYTES};
 use reference::refusal::{ABSENT, ARCHIVE_TRAILER};
-use reference::report::{report, INPUT_MOST};
+use reference::report::{report_to, INPUT_MOST, TEXT_ROOM};
 use reference::samples::{busy, put_u32, random_record};
 use reference::vectors::archive::write;
 use reference::vectors::buffer_before;
@@ -14,9 +14,6 @@ use crate::same::{same, same_list, Same, Tally};
 
 type Bytes = [u8; RECORD_BYTES];
 type Filed = (Bytes, Vec<u8>);
-
-/// Every text fits.
-const TEXT_MOST: usize = 262_144;
 
 pub fn compare_archive(random: &mut Random, n: u32, tally: &mut Tally) -> Same {
     let filed = filed(random, n);
@@ -28,7 +25,7 @@ pub fn compare_archive(random: &mut Random, n: u32, tally: &mut Tally) -> Same {
     compare_reading(&archive, random, tally)
         .and_then(|()| compare_finding(&archive, &numbers, tally))
         .and_then(|()| compare_adding(&archive, &filed, random, tally))
-        .and_then(|()| compare_report(&archive, random))
+        .and_then(|()| compare_report(&archive, random, tally))
         .map_err(|difference| format!("archive {n} of {} bytes: {difference}", archive.len()))
 }
 
@@ -233,27 +230,21 @@ fn room(random: &mut Random, enough: usize) -> usize {
     }
 }
 
-/// The text in a buffer that holds it, with bytes beyond, and in one that cuts it.
-fn compare_report(archive: &[u8], random: &mut Random) -> Same {
-    let mut expected = Vec::new();
-    report(archive, &mut expected);
-    if archive.len() > INPUT_MOST {
-        let text = format!("drawer refused {ARCHIVE_TRAILER}\n");
-        same_list("reference's text", text.as_bytes(), &expected)?;
-    }
-    let long = expected.len();
-    let enough = random.pick(&[long, long + 5, long + 70]);
-    let roomy = if random.one_in(40) { TEXT_MOST } else { enough };
-    for room in [roomy, random.between(0, long as u32) as usize] {
-        let written = long.min(room);
+/// The text in a buffer that holds every text, with bytes beyond; a shorter one is refused and stays, also where the text would fit.
+fn compare_report(archive: &[u8], random: &mut Random, tally: &mut Tally) -> Same {
+    let roomy = TEXT_ROOM + random.pick(&[0, 1, 70]);
+    let short = random.pick(&[TEXT_ROOM - 1, 200_000, 4000, 30, 0]);
+    for room in [roomy, short] {
+        let mut expected = buffer_before(room);
         let mut text = buffer_before(room);
-        same("report", calls::archive_report(archive, &mut text), written)?;
-        same_list("text", &text[..written], &expected[..written])?;
-        same_list(
-            "beyond the text",
-            &text[written..],
-            &buffer_before(room)[written..],
-        )?;
+        let length = report_to(archive, &mut expected);
+        tally.count(told(length).0);
+        same_value("report", calls::archive_report(archive, &mut text), length)?;
+        same_list("text", &text, &expected)?;
+        if room >= TEXT_ROOM && archive.len() > INPUT_MOST {
+            let line = format!("drawer refused {ARCHIVE_TRAILER}\n");
+            same_list("text of long input", &text[..line.len()], line.as_bytes())?;
+        }
     }
     Ok(())
 }

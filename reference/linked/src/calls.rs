@@ -87,7 +87,7 @@ mod library {
             archive_length: usize,
             text: *mut u8,
             text_length: usize,
-        ) -> usize;
+        ) -> ValueTold;
     }
 }
 
@@ -153,7 +153,7 @@ pub fn archive_add(archive: &[u8], bytes: &[u8], title: &[u8], buffer: &mut [u8]
     }
 }
 
-pub fn archive_report(archive: &[u8], text: &mut [u8]) -> usize {
+pub fn archive_report(archive: &[u8], text: &mut [u8]) -> ValueTold {
     unsafe {
         library::archive_report(
             archive.as_ptr(),
