@@ -4,7 +4,7 @@ use std::io::Write;
 use std::process::{Command, Stdio};
 
 use reference::random::Random;
-use reference::report::report;
+use reference::report::{report, report_to, TEXT_ROOM};
 use reference::samples::{busy, put_u32, random_record};
 use reference::vectors::archive::write;
 
@@ -40,6 +40,19 @@ fn empty_and_refused_archives() {
         text(&write(&[(record, vec![b'a'; 41])])),
         "drawer refused 3\n"
     );
+}
+
+#[test]
+fn short_buffers_are_refused_and_stay() {
+    let archive = [0, 0, 0, 0, 68, 83];
+    for room in [0, 16, TEXT_ROOM - 1] {
+        let mut buffer = vec![7; room];
+        assert_eq!(report_to(&archive, &mut buffer), Err(17));
+        assert_eq!(buffer, vec![7; room]);
+    }
+    let mut buffer = vec![7; TEXT_ROOM];
+    assert_eq!(report_to(&archive, &mut buffer), Ok(17));
+    assert_eq!(&buffer[..18], b"drawer refused 1\n\x07");
 }
 
 #[test]

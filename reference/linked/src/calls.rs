@@ -1,6 +1,8 @@
 //! The library's calls as crate `exports` declares them, each wrapped in a safe function.
 //! A slice passes as a pointer and a length. No call asks anything of its caller, so the wrappers test nothing.
 
+use std::ptr::{null, null_mut};
+
 #[repr(C)]
 #[derive(Clone, Copy)]
 pub struct ExitFigures {
@@ -161,5 +163,22 @@ pub fn archive_report(archive: &[u8], text: &mut [u8]) -> ValueTold {
             text.as_mut_ptr(),
             text.len(),
         )
+    }
+}
+
+/// The numbers of all calls where every slice is a null pointer of length 0.
+pub fn numbers_of_nulls() -> [u32; 8] {
+    let (bytes, buffer, profile) = (null(), null_mut(), null_mut());
+    unsafe {
+        [
+            library::segment_work(bytes, 0, profile, 0, profile, 0, profile, 0).number,
+            library::segment_discharge(bytes, 0, profile, 0).number,
+            library::archive_count(bytes, 0).number,
+            library::archive_place(bytes, 0, 0).number,
+            library::archive_find(bytes, 0, 1).number,
+            library::archive_title(bytes, 0, 1).number,
+            library::archive_add(bytes, 0, bytes, 0, bytes, 0, buffer, 0).number,
+            library::archive_report(bytes, 0, buffer, 0).number,
+        ]
     }
 }

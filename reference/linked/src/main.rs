@@ -12,7 +12,7 @@ use reference::random::Random;
 
 use crate::archives::compare_archive;
 use crate::records::{compare_record, KINDS};
-use crate::same::{Same, Tally};
+use crate::same::{same_list, Same, Tally};
 
 const SEED: u64 = 0x11_47ed;
 const RECORDS: u32 = 2000 * KINDS;
@@ -34,10 +34,18 @@ fn all_archives(tally: &mut Tally) -> Same {
     tally.met("call on an archive", &ARCHIVE_NUMBERS)
 }
 
+/// A record of no bytes is 6, an archive of none 1, a text buffer of none 17; a null pointer of length 0 is never read.
+fn null_slices() -> Same {
+    same_list("nulls", &calls::numbers_of_nulls(), &[6, 6, 1, 1, 1, 1, 1, 17])
+}
+
 fn main() -> ExitCode {
     let mut records = Tally::default();
     let mut archives = Tally::default();
-    match all_records(&mut records).and_then(|()| all_archives(&mut archives)) {
+    let compared = null_slices()
+        .and_then(|()| all_records(&mut records))
+        .and_then(|()| all_archives(&mut archives));
+    match compared {
         Ok(()) => {
             let (r, a) = (records.text(), archives.text());
             println!("linked: {RECORDS} records ({r}), {ARCHIVES} archives ({a}), none differ");
