@@ -1,6 +1,5 @@
-use mathlib.Core.Path.{sym}
-use lib.Seq.{length-take-le}
-use Rattle.report.specs.Whole.{report-part, report-within}
+-- `print`: the buffer has room for every text, so the call accepts.
+use Rattle.report.specs.Whole.{report-text}
 use borrow.Author.Needs.{needs}
 use Rattle.segment_report.proofs.print.Statement.{statement}
 use Rattle.segment_report.proofs.print.Tie as tie
@@ -11,14 +10,11 @@ slice-aggregate-report c = search needs
 report-requires : tie.Need-report-requires
 report-requires c κs = search needs
 
-array-share-prefix-text : tie.Need-array-share-prefix-text
-array-share-prefix-text c = report-within (c .before .report .ensures)
+slice-aggregate-write-answer : tie.Need-slice-aggregate-write-answer
+slice-aggregate-write-answer c = search needs
 
-slice-aggregate-write-text : tie.Need-slice-aggregate-write-text
-slice-aggregate-write-text c = sym (length-take-le _ _ (report-within (c .before .before .report .ensures)))
-
-write-text-requires : tie.Need-write-text-requires
-write-text-requires c κs = report-part _ (c .before .before .report .ensures) (search needs)
+write-answer-requires : tie.Need-write-answer-requires
+write-answer-requires c κs = report-text _ _ (search needs) (c .before .before .report .ensures)
 
 returns : tie.Need-returns
 returns c = search needs
@@ -29,7 +25,6 @@ print-spec =
     (tie.spec
     slice-aggregate-report
     report-requires
-    array-share-prefix-text
-    slice-aggregate-write-text
-    write-text-requires
+    slice-aggregate-write-answer
+    write-answer-requires
     returns)
