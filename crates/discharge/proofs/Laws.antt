@@ -19,6 +19,7 @@ use Rattle.discharge.specs.declared.Discharged.the-variants as d
 use Rattle.entries.specs.Entries.{entryProfile}
 use Rattle.entries.specs.Laws.{entry-length}
 use Rattle.discharge.specs.Discharge.{acceptOf, answerOf, written, Calls}
+use Rattle.discharge.specs.Entries.{called}
 
 -- three runs lent one after the other
 module _ (c : ℕ) (p y1 y2 y3 : List ℕ) (l1 : length y1 ≡ c) (l2 : length y2 ≡ c) where
@@ -57,7 +58,7 @@ module _ (l p : List ℕ) where
   pub refuses : (n : ℕ) → checkedOf (acceptOf l (length p)) ≡ Refused n → Calls l p (d.Refused n) p
   refuses n e =
       let q = checked-refused (acceptOf l (length p)) n e in
-      record { answer = rw q; profile = rw q }
+      called l p (d.Refused n) p (rw q) (rw q)
 
   pub asks : (s : Segment) → checkedOf (acceptOf l (length p)) ≡ Valid s → Ranges s × (3 * s .cycle ≤ length p)
   asks s e =
@@ -68,4 +69,4 @@ module _ (l p : List ℕ) where
       Calls l p r p′
   writes s e r p′ er ep =
       let q = checked-valid (acceptOf l (length p)) s e in
-      record { answer = er ∙ rw q; profile = ep ∙ rw q }
+      called l p r p′ (er ∙ rw q) (ep ∙ rw q)
