@@ -1,9 +1,9 @@
 -- The discharge in green order: each green step discharges the smaller of the rate and what waits.
 use Prim.Native.Nat.{ℕ, zero, suc, _+_, _-_, _*_, _/_, min, _≤_, _<_}
 use native.Mathlib.Omega.{arith}
-use native.Mathlib.Nat.{mul-le-mul-right, div-mul-le-self, le-div-iff-mul-le, zero-div}
-use mathlib.Core.Path.{_≡_, ap, _∙_}
-use lib.ListN.{getD, take}
+use native.Mathlib.Nat.{mul-le-mul-right, div-mul-le-self, le-div-iff-mul-le, zero-div, sub-zero, min-comm}
+use mathlib.Core.Path.{_≡_, refl, ap, _∙_}
+use lib.ListN.{length, getD, take}
 use Rattle.lists.specs.Lists.{sum, numberAt}
 use Rattle.platoon.specs.declared.Queue.{Queue}
 use Rattle.platoon.specs.Discharge.{received, servedOf, served, greenFlows}
@@ -24,7 +24,7 @@ served-at : (all g rate n k waiting i : ℕ) → 0 < g → i < n →
     ≡ min rate (waiting + ((k + i) * all / g - (k - 1) * all / g) - sum (take i (served all g rate n k waiting)))
 unfolding served servedOf received sum
 served-at all g rate zero k waiting i pos h = absurd (omega arith)
-served-at all g rate (suc n) k waiting zero pos h = let e : k + 0 ≡ k = omega arith in rw e (omega arith)
+served-at all g rate (suc n) k waiting zero pos h = let e : k + 0 ≡ k = omega arith in rw (e, sub-zero) (min-comm _ rate)
 served-at all g rate (suc n) k waiting (suc i) pos h =
     let queue = waiting + (k * all / g - (k - 1) * all / g) in
     let e : suc k + i ≡ k + suc i = omega arith in
@@ -43,5 +43,15 @@ green-step g q k first fits =
     let e : 1 + (k - 1) ≡ k = omega arith in
     let z : (1 - 1) * all ≡ 0 = omega arith in
     let none : 0 / g ≡ 0 = zero-div g in
-    let at = served-at all g (q .rate) g 1 (q .waiting) (k - 1) (omega arith) (omega arith) in
-    (rw (e, z, none) at at) ∙ ap (min (q .rate)) (omega arith)
+    served-at all g (q .rate) _ 1 (q .waiting) (k - 1) (omega arith) (omega arith) ∙ rw (e, z, none) (ap (min (q .rate)) (omega arith))
+
+-- a number for each green step
+served-length : (all g rate n k waiting : ℕ) → length (served all g rate n k waiting) ≡ n
+unfolding served
+served-length all g rate zero k waiting = refl
+served-length all g rate (suc n) k waiting =
+    ap suc (served-length all g rate n (suc k) (servedOf (waiting + received all g k) rate .waiting))
+
+pub flows-length : (g : ℕ) (q : Queue) → length (greenFlows g q) ≡ g
+unfolding greenFlows
+flows-length g q = served-length (q .arriving) g (q .rate) g 1 (q .waiting)
