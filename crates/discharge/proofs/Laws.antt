@@ -14,12 +14,13 @@ use Rattle.validation.specs.declared.Checked.the-variants.{Refused, Valid}
 use Rattle.validation.specs.Validation.{checkedOf}
 use Rattle.validation.specs.Accepting.{checked-refused, checked-valid, accept-passed}
 use Rattle.ranges.specs.Ranges.{Ranges}
+use Rattle.metering.specs.Metering.{discharged}
 use Rattle.discharge.specs.declared.Discharged.{Discharged}
 use Rattle.discharge.specs.declared.Discharged.the-variants as d
 use Rattle.entries.specs.Entries.{entryProfile}
 use Rattle.entries.specs.Laws.{entry-length}
 use Rattle.discharge.specs.Discharge.{acceptOf, answerOf, written, Calls}
-use Rattle.discharge.specs.Entries.{called}
+use Rattle.discharge.specs.Laws.{called}
 
 -- three runs lent one after the other
 module _ (c : ℕ) (p y1 y2 y3 : List ℕ) (l1 : length y1 ≡ c) (l2 : length y2 ≡ c) where
@@ -52,6 +53,11 @@ unfolding written
 all-written s p y1 y2 y3 e1 e2 e3 =
     three-runs (s .cycle) p y1 y2 y3 (ap length e1 ∙ entry-length (s .cycle) (s .left)) (ap length e2 ∙ entry-length (s .cycle) (s .through))
     ∙ rw (e1, e2, e3)
+
+-- the three volumes
+pub all-answered : (s : Segment) (o₁ o₂ o₃ : ℕ) → o₁ ≡ discharged (s .cycle) (s .left) → o₂ ≡ discharged (s .cycle) (s .through) →
+    o₃ ≡ discharged (s .cycle) (s .right) → d.Volumes o₁ o₂ o₃ ≡ answerOf (ok s)
+all-answered s o₁ o₂ o₃ e1 e2 e3 = rw (e1, e2, e3)
 
 -- the call from what it decided
 module _ (l p : List ℕ) where

@@ -1,2 +1,2 @@
 pub mod Discharge
-pub mod Entries
+pub mod Laws
