@@ -22,20 +22,23 @@ use Rattle.entries.specs.Laws.{entry-length}
 use Rattle.discharge.specs.Discharge.{acceptOf, answerOf, written, Calls}
 use Rattle.discharge.specs.Laws.{called}
 
--- three runs lent one after the other
+-- the profile after one, two and three runs lent one after the other
+abbrev after-one : (c : ℕ) (p y1 : List ℕ) → List ℕ
+after-one c p y1 = y1 ++ drop (c - 0) p
+
+abbrev after-two : (c : ℕ) (p y1 y2 : List ℕ) → List ℕ
+after-two c p y1 y2 = take c (after-one c p y1) ++ (y2 ++ drop (c + c - c) (drop c (after-one c p y1)))
+
+abbrev pub after-three : (c : ℕ) (p y1 y2 y3 : List ℕ) → List ℕ
+after-three c p y1 y2 y3 = take (c + c) (after-two c p y1 y2) ++ (y3 ++ drop (c + c + c - (c + c)) (drop (c + c) (after-two c p y1 y2)))
+
 module _ (c : ℕ) (p y1 y2 y3 : List ℕ) (l1 : length y1 ≡ c) (l2 : length y2 ≡ c) where
-  abbrev after-one : List ℕ
-  after-one = y1 ++ drop (c - 0) p
-
-  abbrev after-two : List ℕ
-  after-two = take c after-one ++ (y2 ++ drop (c + c - c) (drop c after-one))
-
-  two-runs : after-two ≡ (y1 ++ y2) ++ drop (c + c) p
+  two-runs : after-two c p y1 y2 ≡ (y1 ++ y2) ++ drop (c + c) p
   two-runs =
       let e : c + c - c ≡ c = omega arith in
       rw (take-at y1 (drop (c - 0) p) c l1, drop-at y1 (drop (c - 0) p) c l1, sub-zero, e, drop-drop, append-assoc)
 
-  pub three-runs : take (c + c) after-two ++ (y3 ++ drop (c + c + c - (c + c)) (drop (c + c) after-two)) ≡ y1 ++ (y2 ++ (y3 ++ drop (3 * c) p))
+  three-runs : after-three c p y1 y2 y3 ≡ y1 ++ (y2 ++ (y3 ++ drop (3 * c) p))
   three-runs =
       let l : length (y1 ++ y2) ≡ c + c = rw (length-append, l1, l2) in
       let e : c + c + c - (c + c) ≡ c = omega arith in
@@ -44,11 +47,7 @@ module _ (c : ℕ) (p y1 y2 y3 : List ℕ) (l1 : length y1 ≡ c) (l2 : length y
 
 -- the whole profile from the three
 pub all-written : (s : Segment) (p y1 y2 y3 : List ℕ) → y1 ≡ entryProfile (s .cycle) (s .left) → y2 ≡ entryProfile (s .cycle) (s .through) →
-    y3 ≡ entryProfile (s .cycle) (s .right) →
-    take (s .cycle + s .cycle) (take (s .cycle) (y1 ++ drop (s .cycle - 0) p) ++ (y2 ++ drop (s .cycle + s .cycle - s .cycle) (drop (s .cycle) (y1 ++ drop (s .cycle - 0) p))))
-    ++ (y3 ++ drop (s .cycle + s .cycle + s .cycle - (s .cycle + s .cycle))
-    (drop (s .cycle + s .cycle) (take (s .cycle) (y1 ++ drop (s .cycle - 0) p) ++ (y2 ++ drop (s .cycle + s .cycle - s .cycle) (drop (s .cycle) (y1 ++ drop (s .cycle - 0) p))))))
-    ≡ written s p
+    y3 ≡ entryProfile (s .cycle) (s .right) → after-three (s .cycle) p y1 y2 y3 ≡ written s p
 unfolding written
 all-written s p y1 y2 y3 e1 e2 e3 =
     three-runs (s .cycle) p y1 y2 y3 (ap length e1 ∙ entry-length (s .cycle) (s .left)) (ap length e2 ∙ entry-length (s .cycle) (s .through))
