@@ -3,12 +3,13 @@ use Prim.Native.Nat.{ℕ, _+_, _*_}
 use mathlib.Core.Path.{_≡_}
 use mathlib.Core.List.{List, _++_}
 use lib.Dec.{leb}
-use lib.ListN.{length, drop}
+use lib.ListN.{length, take, drop}
 use Rattle.refusal.specs.Refusal.{Or, refused, ok}
 use Rattle.segment.specs.declared.Segment.{Segment}
+use Rattle.segment.specs.Segment.{segmentOf}
 use Rattle.validation.specs.Accepting.{acceptWith}
 use Rattle.metering.specs.Metering.{discharged}
-use Rattle.entries.specs.Entries.{entryProfile}
+use Rattle.entries.specs.Entries.{entryProfile, EntryDischarge}
 use Rattle.discharge.specs.declared.Discharged.{Discharged}
 use Rattle.discharge.specs.declared.Discharged.the-variants.{Refused, Volumes}
 
@@ -32,7 +33,14 @@ abbrev pub profileAfter : Or Segment → List ℕ → List ℕ
 profileAfter (refused n) p = p
 profileAfter (ok s) p = written s p
 
--- what the call answers and leaves in the profile
+-- the three entries of a segment, read from the front of a profile, by their discharge volumes
+pub record EntriesDischarge (s : Segment) (o₁ o₂ o₃ : ℕ) (p : List ℕ) : Type 0 where
+  pub left : EntryDischarge (s .cycle) (s .left) o₁ (take (s .cycle) p)
+  pub through : EntryDischarge (s .cycle) (s .through) o₂ (take (s .cycle) (drop (s .cycle) p))
+  pub right : EntryDischarge (s .cycle) (s .right) o₃ (take (s .cycle) (drop (2 * s .cycle) p))
+
+-- what the call answers and leaves in the profile, and what every accepted record's entries discharge there
 pub record Calls (l p : List ℕ) (r : Discharged) (p′ : List ℕ) : Type 0 where
   pub answer : r ≡ answerOf (acceptOf l (length p))
   pub profile : p′ ≡ profileAfter (acceptOf l (length p)) p
+  pub entries : (left through right : ℕ) → r ≡ Volumes left through right → EntriesDischarge (segmentOf l) left through right p′

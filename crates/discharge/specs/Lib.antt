@@ -1,2 +1,2 @@
 pub mod Discharge
-pub mod Totals
+pub mod Laws

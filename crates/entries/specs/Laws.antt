@@ -1,28 +1,32 @@
--- An entry's profile has a number for each step, adds to what its cycle carries, and keeps below its saturation.
+-- An entry's profile has a number for each step, discharges as the paper says, and keeps below its saturation.
 use Prim.Native.Nat.{ℕ, _≤_}
 use native.Mathlib.Omega.{arith}
 use mathlib.Core.Path.{_≡_}
 use lib.ListN.{length, getD}
-use Rattle.lists.specs.Lists.{sum, tab-length}
+use Rattle.lists.specs.Lists.{tab-length}
 use Rattle.movements.specs.Movements.{entryLimit, flowLimit, flowUnits}
 use Rattle.signal.specs.Landing.{landed}
 use Rattle.segment.specs.declared.Entry.{Entry}
-use Rattle.ranges.specs.Tests.{leastCycle}
 use Rattle.ranges.specs.Ranges.{EntryRanges}
 use Rattle.metering.specs.Metering.{discharged, discharged-served, discharged-volume}
-use Rattle.platoon.specs.Discharge.{carried, profileOf}
+use Rattle.platoon.specs.Discharge.{profileOf}
 use Rattle.platoon.specs.Conserved.{profile-sum, profile-le}
-use Rattle.entries.specs.Entries.{entryProfile}
+use Rattle.platoon.specs.Steps.{profile-green, profile-red}
+use Rattle.entries.specs.Entries.{entryProfile, EntryDischarge}
 
 pub entry-length : (c : ℕ) (e : Entry) → length (entryProfile c e) ≡ c
 unfolding entryProfile profileOf landed
 entry-length c e = tab-length _ 1 c
 
--- T = 1000·O·C
-pub entry-adds : (c : ℕ) (e : Entry) → leastCycle ≤ c → EntryRanges c e → sum (entryProfile c e) ≡ carried c (discharged c e)
+-- each green step, the zeros elsewhere, and the total: no more than its green can serve is discharged
+pub entry-discharge : (c : ℕ) (e : Entry) → EntryRanges c e → EntryDischarge c e (discharged c e) (entryProfile c e)
 unfolding entryProfile
-entry-adds c e h r =
-    profile-sum c (e .green) (e .saturation) (e .arriving) (discharged c e) (omega arith) (r .arriving) (discharged-served c e)
+entry-discharge c e r =
+    record {
+      green = profile-green c (e .green) (e .saturation) (e .arriving) (discharged c e) (r .green);
+      red = profile-red c (e .green) (e .saturation) (e .arriving) (discharged c e) (r .green);
+      total = profile-sum c (e .green) (e .saturation) (e .arriving) (discharged c e) (omega (arith, r .green .start)) (r .arriving) (discharged-served c e);
+    }
 
 pub entry-le : (c : ℕ) (e : Entry) → EntryRanges c e → (i : ℕ) → getD (entryProfile c e) i 0 ≤ flowUnits flowLimit
 unfolding entryProfile

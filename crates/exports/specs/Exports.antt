@@ -3,7 +3,7 @@ use Prim.Native.Nat.{ℕ, _+_}
 use mathlib.Core.Path.{_≡_}
 use mathlib.Core.List.{List}
 use lib.Ieee.{Float}
-use lib.ListN.{getD}
+use lib.ListN.{length, getD}
 use Rattle.flows.specs.Flows.{zero64}
 use Rattle.segment.specs.Segment.{segmentOf}
 use Rattle.propagation.specs.Propagation.{Profiles}
@@ -15,6 +15,7 @@ use Rattle.outcome.specs.Outcome.{numberOf}
 use Rattle.working.specs.Working.{callOf}
 use Rattle.discharge.specs.declared.Discharged.{Discharged}
 use Rattle.discharge.specs.declared.Discharged.the-variants.{Refused as RefusedVolumes, Volumes}
+use Rattle.discharge.specs.Discharge.{acceptOf, answerOf, profileAfter, EntriesDischarge}
 use Rattle.archive_format.specs.declared.Answer.{Answer}
 use Rattle.archive_format.specs.declared.Answer.the-variants.{Is, Refused}
 use Rattle.archive_format.specs.Archive.{segments}
@@ -53,6 +54,12 @@ pub record WorksTold (l : List ℕ) (p : Profiles) (r : WorkTold) (p′ : Profil
 abbrev pub volumesOf : Discharged → VolumesTold
 volumesOf (RefusedVolumes n) = record { number = n; left = 0; through = 0; right = 0 }
 volumesOf (Volumes left through right) = record { number = 0; left = left; through = through; right = right }
+
+-- the discharge call: its answer in numbers, the profile, and what every accepted record's entries discharge there
+pub record DischargesTold (l p : List ℕ) (r : VolumesTold) (p′ : List ℕ) : Type 0 where
+  pub answer : r ≡ volumesOf (answerOf (acceptOf l (length p)))
+  pub profile : p′ ≡ profileAfter (acceptOf l (length p)) p
+  pub entries : r .number ≡ 0 → EntriesDischarge (segmentOf l) (r .left) (r .through) (r .right) p′
 
 abbrev pub valueOf : Answer → ValueTold
 valueOf (Refused n) = record { number = n; value = 0 }

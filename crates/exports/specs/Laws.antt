@@ -1,5 +1,6 @@
 -- What the answers in numbers mean: number and sum say the outcome, 0 is an accepted working, the part told of an archive is the title.
-use Prim.Native.Nat.{ℕ}
+use Prim.Native.Nat.{ℕ, _<_}
+use native.Mathlib.Omega.{arith}
 use mathlib.Core.Bool.{Bool, true, false, cond}
 use mathlib.Core.Path.{_≡_, refl, sym, ap, subst, _∙_}
 use mathlib.Core.List.{List}
@@ -17,10 +18,15 @@ use Rattle.outcome.specs.declared.Outcome.the-variants.{Worked, Refused, Unsett
 use Rattle.outcome.specs.declared.Working.{Working}
 use Rattle.outcome.specs.Outcome.{numberOf, outcomeOf, outcome-number, workedOf}
 use Rattle.working.specs.Working.{Called, called, Works, acceptOf, callOf, byRecord, bySharing, sharingOf, unworkedOf}
+use Rattle.discharge.specs.declared.Discharged.{Discharged}
+use Rattle.discharge.specs.declared.Discharged.the-variants.{Refused as RefusedVolumes, Volumes}
+use Rattle.discharge.specs.Discharge.{EntriesDischarge, Calls}
+use Rattle.discharge.specs.Laws.{refused-above}
 use Rattle.archive_format.specs.Archive.{answerOf, findOf, segments, titleAt, titleOf}
 use Rattle.exports.specs.declared.WorkTold.{WorkTold}
+use Rattle.exports.specs.declared.VolumesTold.{VolumesTold}
 use Rattle.exports.specs.declared.TitleTold.{TitleTold}
-use Rattle.exports.specs.Exports.{WorksTold, sumOf, toldOf, titlePartOf}
+use Rattle.exports.specs.Exports.{WorksTold, sumOf, toldOf, DischargesTold, volumesOf, titlePartOf}
 
 -- nothing is lost: number and sum say which outcome it was
 pub told-outcome : (n : ℕ) (sum : Float) → outcomeOf (numberOf (outcomeOf n sum)) (sumOf (outcomeOf n sum)) ≡ outcomeOf n sum
@@ -74,6 +80,20 @@ works-told l p w p′ r works e =
     demanded a =
         let d = works .demand (a .sum) (ap (λ (c : Called). c .answer .outcome) (works .is) ∙ a .is) in
         subst (λ (rows : List (List ℕ)). Demand3 (segmentOf l) rows p′) (sym (ap (λ (t : WorkTold). t .pairs .rows) e)) d
+
+-- the discharge call's, in numbers
+pub discharges-told : (l p : List ℕ) (d : Discharged) (p′ : List ℕ) (r : VolumesTold) → Calls l p d p′ → r ≡ volumesOf d → DischargesTold l p r p′
+discharges-told l p d p′ r calls e =
+    record {
+      answer = e ∙ ap volumesOf (calls .answer);
+      profile = calls .profile;
+      entries = rw e (go d calls);
+    }
+  where
+    go : (d : Discharged) → Calls l p d p′ → volumesOf d .number ≡ 0 →
+        EntriesDischarge (segmentOf l) (volumesOf d .left) (volumesOf d .through) (volumesOf d .right) p′
+    go (RefusedVolumes n) c z = absurd (let h = refused-above l (length p) n (sym (c .answer)) in omega arith)
+    go (Volumes left through right) c z = c .entries left through right refl
 
 abbrev pub partOf : TitleTold → List ℕ → List ℕ
 partOf t l = take (t .length) (drop (t .place) l)

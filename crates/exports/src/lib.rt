@@ -4,11 +4,9 @@ ghost use mathlib.Core.Path.{_≡_};
 ghost use lib.ListN.{length};
 ghost use Rattle.propagation.specs.Propagation.{profiles};
 ghost use Rattle.outcome.specs.Outcome.{numberOf};
-ghost use Rattle.discharge.specs.Discharge.{acceptOf, profileAfter};
-ghost use Rattle.discharge.specs.Discharge.{answerOf as volumesAnswer};
 ghost use Rattle.archive_format.specs.Archive.{addOf, answerOf, countOf, findOf, newLength, overwrite, placeOf, segments};
 ghost use Rattle.report.specs.Report.{reportOf};
-ghost use Rattle.exports.specs.Exports.{WorksTold, sumOf, toldOf, volumesOf, valueOf, titlePartOf};
+ghost use Rattle.exports.specs.Exports.{WorksTold, sumOf, toldOf, DischargesTold, volumesOf, valueOf, titlePartOf};
 use archive_format::Answer;
 use discharge::Discharged;
 use exit_figures::ExitFigures;
@@ -151,8 +149,7 @@ pub extern "C" fn segment_work(
 // `discharge::discharge`.
 #[no_mangle]
 pub extern "C" fn segment_discharge(bytes: &[u8], profile: &mut [u32]) -> VolumesTold
-    ensures { λ r. ⌜ r ≡ volumesOf (volumesAnswer (acceptOf (now (bytes .entry)) (length (now (profile .entry))))) ⌝ }
-    ensures { λ _. ⌜ now (profile .exit) ≡ profileAfter (acceptOf (now (bytes .entry)) (length (now (profile .entry)))) (now (profile .entry)) ⌝ }
+    ensures { λ r. ⌜ DischargesTold (now (bytes .entry)) (now (profile .entry)) r (now (profile .exit)) ⌝ }
 {
     volumes(discharge::discharge(bytes, profile))
 }

@@ -1,6 +1,6 @@
 // Platoon discharge: what one signalised entry sends into the segment in each step of a cycle.
 ghost use mathlib.Core.Path.{_≡_};
-ghost use Prim.Native.Nat.{_*_, _/_, _≤_, _<_};
+ghost use Prim.Native.Nat.{_+_, _*_, _/_, _≤_, _<_};
 ghost use lib.ListN.{length, replicate};
 ghost use Rattle.movements.specs.Movements.{entryLimit, flowLimit};
 ghost use Rattle.signal.specs.Greens.{Within};
@@ -38,12 +38,12 @@ fn serve(queue: u64, rate: u32) -> Served
     }
 }
 
-// What has arrived on green by the end of its step k.
-fn arrived(k: u32, arriving: u64, g: u32) -> u64
-    requires { ⌜ (0 < g) × (k ≤ 1000) × (arriving ≤ 1000000000000) ⌝ }
-    ensures { λ r. ⌜ r ≡ k * arriving / g ⌝ }
+// What has arrived on green by the end of the step after those that are gone.
+fn arrived(gone: u32, arriving: u64, g: u32) -> u64
+    requires { ⌜ (gone < g) × (g ≤ 1000) × (arriving ≤ 1000000000000) ⌝ }
+    ensures { λ r. ⌜ r ≡ (gone + 1) * arriving / g ⌝ }
 {
-    (k as u64) * arriving / (g as u64)
+    ((gone + 1) as u64) * arriving / (g as u64)
 }
 
 // Serves the queue step by step of the green, into an empty cycle.
@@ -57,17 +57,15 @@ fn release(green: Green, queue: Queue, run: &mut [u32])
     let g = green.steps;
     let mut waiting = queue.waiting;
     let mut passed: u64 = 0;
-    let mut left = g;
-    let mut k: u32 = 1;
-    while 0 < left {
-        let reached = arrived(k, queue.arriving, g);
+    let mut gone: u32 = 0;
+    while gone < g {
+        let reached = arrived(gone, queue.arriving, g);
         let step = serve(waiting + (reached - passed), queue.rate);
-        let at = signal::index(signal::green_step(c, green, k));
+        let at = signal::index(signal::green_step(c, green, gone + 1));
         run[at] += step.flow;
         waiting = step.waiting;
         passed = reached;
-        left -= 1;
-        k += 1;
+        gone += 1;
     }
 }
 

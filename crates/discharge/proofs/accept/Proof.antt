@@ -1,3 +1,4 @@
+-- The record's refusals, then 16 where three cycles do not fit the room.
 use Prim.Native.Nat.{_*_}
 use native.Mathlib.Omega.{arith}
 use mathlib.Core.Path.{_∙_, sym}
@@ -24,16 +25,25 @@ mul-if1 c = search needs
 
 returns : tie.Need-returns
 returns c =
-    let at-checked2 = c .before .before .before in
-    let at-check = at-checked2 .before .before in
+    let at-valid = c .before .before .before in
+    let at-check = at-valid .before .before in
     let start = at-check .before .before in
-    accept-short _ _ _ (sym (at-check .check .ensures) ∙ at-checked2 .checked2 .given .1) (lt-leb (3 * at-checked2 .checked2 .given .0 .0 .cycle) (start .args .room) (omega (arith, c .if1 .taken)))
+    accept-short _ _ _ (sym (at-check .check .ensures) ∙ at-valid .checked2 .given .1)
+    (lt-leb (3 * at-valid .checked2 .given .0 .0 .cycle) (start .args .room) (omega (arith, c .if1 .taken)))
 
 returns-2 : tie.Need-returns-2
-returns-2 c = accept-refused _ _ _ (sym (c .before .before .before .check .ensures) ∙ c .before .checked .given .1)
+returns-2 c =
+    let at-refused = c .before in
+    let at-check = at-refused .before .before in
+    accept-refused _ _ _ (sym (at-check .check .ensures) ∙ at-refused .checked .given .1)
 
 returns-3 : tie.Need-returns-3
-returns-3 c = accept-valid _ _ _ (sym (c .before .before .before .before .before .check .ensures) ∙ c .before .before .before .checked2 .given .1) (le-leb _ _ (c .if1 .left))
+returns-3 c =
+    let at-valid = c .before .before .before in
+    let at-check = at-valid .before .before in
+    let start = at-check .before .before in
+    accept-valid _ _ _ (sym (at-check .check .ensures) ∙ at-valid .checked2 .given .1)
+    (le-leb (3 * at-valid .checked2 .given .0 .0 .cycle) (start .args .room) (omega (arith, c .if1 .left)))
 
 pub accept-spec : {M : Type 1} → statement M
 accept-spec =

@@ -1,3 +1,4 @@
+-- Decided, then written: either way the answer and the profile are the definition's.
 use mathlib.Core.Path.{_∙_, sym}
 use Rattle.discharge.proofs.Laws.{refuses, asks, writes}
 use borrow.Author.Needs.{needs}
@@ -14,16 +15,27 @@ enum-known-accepted-2 : tie.Need-enum-known-accepted-2
 enum-known-accepted-2 c = search needs
 
 write-requires : tie.Need-write-requires
-write-requires c κs = asks _ (c .before .before .before .before .before .before .before .args .profile .now) _ (sym (c .before .before .before .before .accept .ensures) ∙ c .before .before .accepted2 .given .1)
+write-requires c κs =
+    let at-valid = c .before .before in
+    let at-accept = at-valid .before .before in
+    let start = at-accept .before .before .before in
+    asks _ (start .args .profile .now) _ (sym (at-accept .accept .ensures) ∙ at-valid .accepted2 .given .1)
 
 returns : tie.Need-returns
-returns c = refuses _ _ _ (sym (c .before .before .before .accept .ensures) ∙ c .before .accepted .given .1)
+returns c =
+    let at-refused = c .before in
+    let at-accept = at-refused .before .before in
+    refuses _ _ _ (sym (at-accept .accept .ensures) ∙ at-refused .accepted .given .1)
 
 same-length : tie.Need-same-length
 same-length c = search needs
 
 returns-2 : tie.Need-returns-2
-returns-2 c = writes _ _ _ (sym (c .before .before .before .before .before .before .before .accept .ensures) ∙ c .before .before .before .before .before .accepted2 .given .1) _ _ (c .before .before .write .ensures .0) (c .before .before .write .ensures .1)
+returns-2 c =
+    let at-write = c .before .before in
+    let at-valid = at-write .before .before .before in
+    let at-accept = at-valid .before .before in
+    writes _ _ _ (sym (at-accept .accept .ensures) ∙ at-valid .accepted2 .given .1) _ _ (at-write .write .ensures .0) (at-write .write .ensures .1)
 
 pub discharge-spec : {M : Type 1} → statement M
 discharge-spec =

@@ -1,4 +1,5 @@
-use Rattle.discharge.proofs.Laws.{all-written}
+-- Three runs lent one after the other, each an entry's profile.
+use Rattle.discharge.proofs.Laws.{all-answered, all-written}
 use borrow.Author.Needs.{needs}
 use Rattle.discharge.proofs.write.Statement.{statement}
 use Rattle.discharge.proofs.write.Tie as tie
@@ -58,7 +59,15 @@ same-length : tie.Need-same-length
 same-length c = search needs
 
 returns : tie.Need-returns
-returns c = (cc, all-written _ _ _ _ _ (c .before .before .before .before .before .before .before .before .before .before .discharge-entry .ensures .1) (c .before .before .before .before .before .before .discharge-entry2 .ensures .1) (c .before .before .discharge-entry3 .ensures .1))
+returns c =
+    let at-right = c .before .before in
+    let at-through = at-right .before .before .before .before in
+    let at-left = at-through .before .before .before .before in
+    let start = at-left .before .before .before .before in
+    let left = at-left .discharge-entry .ensures in
+    let through = at-through .discharge-entry2 .ensures in
+    let right = at-right .discharge-entry3 .ensures in
+    (all-answered (start .args .s) _ _ _ (left .0) (through .0) (right .0), all-written _ _ _ _ _ (left .1) (through .1) (right .1))
 
 pub write-spec : {M : Type 1} → statement M
 write-spec =

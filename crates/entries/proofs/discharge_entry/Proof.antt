@@ -1,3 +1,4 @@
+-- The entry's ranges are what the platoon asks; its profile is that of the discharge volume.
 use native.Mathlib.Omega.{arith}
 use mathlib.Core.Path.{_∙_}
 use Rattle.entries.specs.Entries.{entryProfile}
@@ -10,14 +11,22 @@ discharged-requires : tie.Need-discharged-requires
 discharged-requires c κs = search needs
 
 discharge-requires : tie.Need-discharge-requires
-discharge-requires c κs = let p = c .before .before .before .pre in ((omega arith, rw (p .2) (p .3 .green)), (omega (arith, p .3 .saturation, p .3 .arriving), omega (arith, p .3 .saturation, p .3 .arriving), discharged-le (c .before .before .before .args .c) _ _ (p .3) (c .before .discharged .ensures)))
+discharge-requires c κs =
+    let start = c .before .before .before in
+    let ranges = start .pre .3 in
+    let small = discharged-le (start .args .c) _ _ ranges (c .before .discharged .ensures) in
+    ((omega arith, rw (start .pre .2) (ranges .green)), (omega (arith, ranges .saturation, ranges .volume), omega (arith, ranges .arriving), small))
 
 same-length : tie.Need-same-length
 same-length c = search needs
 
 returns : tie.Need-returns
 unfolding entryProfile
-returns c = let p = c .before .before .before .before .before .before .pre in (c .before .before .before .before .discharged .ensures, c .before .before .discharge .ensures ∙ rw (p .2, c .before .before .before .before .discharged .ensures))
+returns c =
+    let at-discharge = c .before .before in
+    let at-discharged = at-discharge .before .before in
+    let start = at-discharged .before .before in
+    (at-discharged .discharged .ensures, at-discharge .discharge .ensures ∙ rw (start .pre .2, at-discharged .discharged .ensures))
 
 pub discharge-entry-spec : {M : Type 1} → statement M
 discharge-entry-spec = tie.close (tie.spec discharged-requires discharge-requires same-length returns)

@@ -1,5 +1,5 @@
-use mathlib.Core.Path.{ap, _∙_}
-use Rattle.exports.specs.Exports.{volumesOf}
+-- The discharge call's contract, in numbers.
+use Rattle.exports.specs.Laws.{discharges-told}
 use borrow.Author.Needs.{needs}
 use Rattle.exports.proofs.segment_discharge.Statement.{statement}
 use Rattle.exports.proofs.segment_discharge.Tie as tie
@@ -14,7 +14,9 @@ same-length : tie.Need-same-length
 same-length c = search needs
 
 returns : tie.Need-returns
-returns c = (c .volumes .ensures ∙ ap volumesOf (c .before .before .before .discharge .ensures .answer), c .before .before .before .discharge .ensures .profile)
+returns c =
+    let at-discharge = c .before .before .before in
+    discharges-told _ _ _ _ _ (at-discharge .discharge .ensures) (c .volumes .ensures)
 
 pub segment-discharge-spec : {M : Type 1} → statement M
 segment-discharge-spec =
