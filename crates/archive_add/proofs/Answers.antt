@@ -17,7 +17,7 @@ use Rattle.archive_format.specs.Words.{Bytes}
 use Rattle.archive_format.specs.Decoded.{Shaped, Fit, decoded-is-fit, body-laid, places-laid}
 use Rattle.archive_format.specs.Encoded.{length-places, length-encode}
 use Rattle.archive_format.specs.Sizes.{body-bound}
-use Rattle.archive_format.specs.Building.{body-append}
+use Rattle.archive_format.specs.Joined.{body-append}
 use Rattle.archive_open.specs.declared.Opened.the-variants.{Invalid}
 use Rattle.archive_open.specs.Opening.{openedOf, invalid, Held, held-run, held-fits}
 use Rattle.archive_write.specs.Writing.{putAt, Wrote, recordBytes, grown, record-length}
