@@ -1,5 +1,6 @@
 -- Adding called again and again, from the six bytes of the empty archive: what was added without a refusal reads back as that list,
 -- and an archive's records, added in order, are never refused and give its bytes again.
+-- With e = segments: `encode e []` is what `archive_format::empty` answers, `Adds` the contract of `add`, the rest those of the reading calls.
 use Prim.Native.Nat.{ℕ, suc, _≤_}
 use native.Mathlib.Omega.{arith}
 use mathlib.Core.Path.{_≡_, refl, sym, ap, _∙_}
@@ -37,7 +38,7 @@ module _ (e : Edition) (outs : ℕ → List ℕ) where
   grown-reads i l fs x gs l′ (then {i = j} {l = k} {f = f} {fs = rest} n out′ a on) r same =
       let w : Added e k (f .bytes) (f .title) (take n out′) = read-back e k (f .bytes) (f .title) (outs j) n out′ a in
       let z : w .fs ≡ gs = cc in
-      grown-reads (suc j) (take n out′) rest x (gs ++ (f ∷ [])) l′ on (rw z at (w .more)) same ∙ ap ok (append-snoc gs f rest)
+      grown-reads (suc j) _ rest x (gs ++ (f ∷ [])) l′ on (rw z at (w .more)) same ∙ ap ok (append-snoc gs f rest)
 
   pub added-reads-back : (fs : List Filed) (l : List ℕ) → Calls e outs 0 (encode e []) fs (ok l) → ReadsAs e l fs
   added-reads-back fs l c = reads-as e l fs (grown-reads 0 (encode e []) fs (ok l) [] l c (empty-reads e) refl)
@@ -58,7 +59,7 @@ module _ (e : Edition) (outs : ℕ → List ℕ) where
     grown-is i l gs x fs (then {i = j} {l = k} {f = g} {fs = rest} n out′ a on) same f h =
         let next : take n out′ ≡ encode e (fs ++ (g ∷ [])) = cc (accepted j k fs g rest same f h, written e k (g .bytes) (g .title) (outs j) n out′ a .0) in
         let snoc : (fs ++ (g ∷ [])) ++ rest ≡ fs ++ (g ∷ rest) = append-snoc fs g rest in
-        grown-is (suc j) (take n out′) rest x (fs ++ (g ∷ [])) on next (rw snoc f) (rw snoc h) ∙ rw snoc
+        grown-is (suc j) _ rest x (fs ++ (g ∷ [])) on next (rw snoc f) (rw snoc h) ∙ rw snoc
 
   pub every-archive : (l : List ℕ) (n : ℕ) (x : Or (List ℕ)) → Bytes l → answerOf (countOf e l) ≡ Is n → ((i : ℕ) → length l ≤ length (outs i))
       → Calls e outs 0 (encode e []) (recordsFrom e l n 0) x → x ≡ ok l

@@ -5,7 +5,7 @@ use mathlib.Core.Path.{_≡_, refl, ap, _∙_}
 use mathlib.Core.Bool.{Bool, true, false, cond}
 use mathlib.Core.List.{List, [], _∷_, _++_}
 use lib.Dec.{eqb, ltb}
-use lib.ListN.{length, getD, length-append}
+use lib.ListN.{length, getD}
 use borrow.Author.Tests.{eqb-true, ne-eqb, ltb-true}
 use Rattle.refusal.specs.Refusal.{Or, refused, ok, andThen, both}
 use Rattle.octets.specs.Octets.{word2}
@@ -15,6 +15,7 @@ use Rattle.archive_format.specs.Archive.{Filed, numberOf, body, rising, 
 use Rattle.archive_format.specs.Archive.{placeIn, findIn, findOf, titlePartAt, titlePartOf, titleOf}
 use Rattle.archive_format.specs.Reading.{title-length, Ran, ran, Reads, reads}
 use Rattle.archive_format.specs.Decoded.{Shaped}
+use Rattle.archive_format.specs.Joined.{body-next}
 
 -- the record with a number, in a list
 unfoldable pub lookup : List Filed → ℕ → Or Filed
@@ -148,11 +149,9 @@ find-more size at (f ∷ fs) gs n p h = go (eqb (numberOf f) n) h (find-more siz
 pub find-after : (size at : ℕ) (fs gs : List Filed) (n m : ℕ) → Shaped size fs → findIn size at fs n ≡ refused m → findIn size at (fs ++ gs) n ≡ findIn size (at + length (body fs)) gs n
 unfolding findIn body
 find-after size at [] gs n m s h = let z : at ≡ at + 0 = omega arith in ap (λ (y : ℕ). findIn size y gs n) z
-find-after size at (f ∷ fs) gs n m s h = go (eqb (numberOf f) n) h (find-after size (at + size + 1 + length (f .title)) fs gs n m (s .2)) next
+find-after size at (f ∷ fs) gs n m s h =
+    go (eqb (numberOf f) n) h (find-after size (at + size + 1 + length (f .title)) fs gs n m (s .2)) (body-next size at f fs (s .0))
   where
-    next : at + size + 1 + length (f .title) + length (body fs) ≡ at + length (f .bytes ++ (length (f .title) ∷ (f .title ++ body fs)))
-    next = simp length-append (omega (arith, s .0))
-
     go : (b : Bool) → cond b (ok at) (findIn size (at + size + 1 + length (f .title)) fs n) ≡ refused m
         → (findIn size (at + size + 1 + length (f .title)) fs n ≡ refused m → findIn size (at + size + 1 + length (f .title)) (fs ++ gs) n ≡ findIn size (at + size + 1 + length (f .title) + length (body fs)) gs n)
         → at + size + 1 + length (f .title) + length (body fs) ≡ at + length (f .bytes ++ (length (f .title) ∷ (f .title ++ body fs)))

@@ -36,6 +36,12 @@ unfolding body
 body-append [] gs = refl
 body-append (f ∷ fs) gs = rw (body-append fs gs) (simp append-assoc)
 
+-- the place after a first record and those behind it
+pub body-next : (size at : ℕ) (f : Filed) (fs : List Filed) → length (f .bytes) ≡ size
+    → at + size + 1 + length (f .title) + length (body fs) ≡ at + length (body (f ∷ fs))
+unfolding body
+body-next size at f fs sized = simp length-append (omega arith)
+
 -- more records never have fewer bytes
 pub length-more : (e : Edition) (fs gs : List Filed) → length (encode e fs) ≤ length (encode e (fs ++ gs))
 length-more e fs gs =

@@ -22,7 +22,7 @@ use Rattle.archive_format.specs.Archive.{countOf, placeOf, findOf, title
 use Rattle.archive_format.specs.Reading.{Reads, reads}
 use Rattle.archive_format.specs.Decoded.{Shaped, Fit, body-laid, decoded-is-fit}
 use Rattle.archive_format.specs.Encoded.{laid-length, laid-record}
-use Rattle.archive_format.specs.Joined.{body-append, shaped-parts, fit-first, fit-rises}
+use Rattle.archive_format.specs.Joined.{body-append, body-next, shaped-parts, fit-first, fit-rises}
 use Rattle.archive_format.specs.Finding.{lookup, title-is, find-after, find-above, find-absent, place-beyond}
 
 -- ---- a record with others before and after it
@@ -31,10 +31,7 @@ place-after : (size at : ℕ) (gs : List Filed) (f : Filed) (hs : List Filed) �
     → placeIn size at (gs ++ (f ∷ hs)) (length gs) ≡ ok (at + length (body gs))
 unfolding placeIn body
 place-after size at [] f hs s = let z : at ≡ at + 0 = omega arith in ap ok z
-place-after size at (g ∷ gs) f hs s =
-    let z : at + size + 1 + length (g .title) + length (body gs) ≡ at + length (g .bytes ++ (length (g .title) ∷ (g .title ++ body gs))) =
-    simp length-append (omega (arith, s .0)) in
-    place-after size (at + size + 1 + length (g .title)) gs f hs (s .2) ∙ ap ok z
+place-after size at (g ∷ gs) f hs s = place-after size (at + size + 1 + length (g .title)) gs f hs (s .2) ∙ ap ok (body-next size at g gs (s .0))
 
 module _ (e : Edition) (l : List ℕ) (gs : List Filed) (f : Filed) (hs : List Filed) (r : decode e l ≡ ok (gs ++ (f ∷ hs))) where
   abbrev rest : List ℕ
