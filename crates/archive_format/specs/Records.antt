@@ -136,7 +136,9 @@ records-from e l gs [] r = refl
 records-from e l gs (f ∷ fs) r =
     let s : Stands e l (length gs) f = stands e l gs f fs r in
     let more : length gs + 1 ≡ length (gs ++ (f ∷ [])) = sym (length-append gs (f ∷ [])) in
-    rw (s .placed, s .bytes, s .title, more, records-from e l (gs ++ (f ∷ [])) fs (r ∙ ap ok (sym (append-snoc gs f fs))))
+    let on : decode e l ≡ ok ((gs ++ (f ∷ [])) ++ fs) = r ∙ ap ok (sym (append-snoc gs f fs)) in
+    rw (s .placed, s .bytes, s .title)
+    (ap (λ (zs : List Filed). f ∷ zs) (ap (λ (i : ℕ). recordsFrom e l (length fs) i) more ∙ records-from e l (gs ++ (f ∷ [])) fs on))
 
 -- where count answers, they are the archive's
 pub records-are : (e : Edition) (l : List ℕ) (n : ℕ) → answerOf (countOf e l) ≡ Is n → decode e l ≡ ok (recordsFrom e l n 0)
