@@ -17,7 +17,7 @@ use Rattle.archive_format.specs.Words.{Bytes}
 use Rattle.archive_format.specs.Decoded.{Shaped, Fit, decoded-is-fit, body-laid, places-laid}
 use Rattle.archive_format.specs.Encoded.{length-places, length-encode}
 use Rattle.archive_format.specs.Sizes.{body-bound}
-use Rattle.archive_format.specs.Building.{body-append}
+use Rattle.archive_format.specs.Joined.{body-append, body-next}
 use Rattle.archive_open.specs.declared.Opened.the-variants.{Invalid}
 use Rattle.archive_open.specs.Opening.{openedOf, invalid, Held, held-run, held-fits}
 use Rattle.archive_write.specs.Writing.{putAt, Wrote, recordBytes, grown, record-length}
@@ -33,10 +33,9 @@ places-more : (size p : ℕ) (fs : List Filed) (b t : List ℕ) → Shaped size 
 unfolding places body
 places-more size p [] b t s = let e : p ≡ p + 0 = omega arith in ap (λ (z : ℕ). bytes2 z) e
 places-more size p (f ∷ fs) b t s =
-    let e : p + size + 1 + length (f .title) + length (body fs) ≡ p + length (f .bytes ++ (length (f .title) ∷ (f .title ++ body fs))) = simp length-append (omega (arith, s .0)) in
     ap (λ (z : List ℕ). bytes2 p ++ z)
     (places-more size (p + size + 1 + length (f .title)) fs b t (s .2)
-    ∙ ap (λ (z : ℕ). places size (p + size + 1 + length (f .title)) fs ++ bytes2 z) e)
+    ∙ ap (λ (z : ℕ). places size (p + size + 1 + length (f .title)) fs ++ bytes2 z) (body-next size p f fs (s .0)))
 
 module _ (e : Edition) (l : List ℕ) {count t last : ℕ} (h : Held e l count t last) where
   counted : count ≡ length (h .fs)

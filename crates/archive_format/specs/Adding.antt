@@ -1,38 +1,27 @@
 -- Written reads back: where adding accepts, the new archive reads as the old records, in order, and the new one;
 -- finding and titles give back the new record, and every record found before at its place, with its bytes and title.
+-- And the records of a fit list are accepted one after another.
 use Prim.Native.Nat.{ℕ, _+_, _≤_, _<_}
-use native.Mathlib.Nat.{zero-add}
 use native.Mathlib.Omega.{arith}
 use mathlib.Core.Path.{_≡_, refl, sym, ap, _∙_}
-use mathlib.Core.Bool.{true, _&&_, and-assoc}
+use mathlib.Core.Bool.{true}
 use mathlib.Core.List.{List, [], _∷_, _++_}
 use lib.Dec.{leb, ltb}
 use lib.ListN.{length, take, drop, length-append}
-use borrow.Author.Tests.{leb-true, ltb-true, eqb-true, lt-ltb, eq-eqb, ne-eqb}
-use Rattle.refusal.specs.Refusal.{Or, refused, ok, andThen, need-passed, need-rest, both}
+use lib.Seq.{append-snoc}
+use borrow.Author.Tests.{leb-true, ltb-true, eqb-true, le-leb, lt-ltb, eq-eqb, ne-eqb}
+use Rattle.refusal.specs.Refusal.{Or, refused, ok, need, andThen, need-passed, need-rest, both}
 use Rattle.octets.specs.Octets.{word4}
 use Rattle.archive_format.specs.declared.Edition.{Edition}
-use Rattle.archive_format.specs.Archive.{recordLimit, titleLimit, Filed, numberOf, body, encode, printables, titled, rising, lastNumber, filedAt, decode, countOf, placeOf, findIn, findOf, titleOf, single, addTo, addOf}
+use Rattle.archive_format.specs.Archive.{recordLimit, titleLimit, Filed, numberOf, body, encode, printables, titled, rising, lastNumber, filedAt, decode}
+use Rattle.archive_format.specs.Archive.{countOf, placeOf, findOf, titleOf, single, addTo, addOf}
 use Rattle.archive_format.specs.Decoded.{Shaped, Fit, decoded-is-fit}
 use Rattle.archive_format.specs.Encoded.{encoding-reads}
-use Rattle.archive_format.specs.Finding.{lookup, find-is, absent-is, title-is, lookup-more, lookup-after, find-more, find-after, find-above, place-more}
+use Rattle.archive_format.specs.Joined.{titled-append, rising-append, shaped-append, shaped-parts, length-more, fit-first, fit-titles, fit-rises}
+use Rattle.archive_format.specs.Finding.{lookup, find-is, absent-is, find-absent, title-is, lookup-more, lookup-after, find-more, place-more}
+use Rattle.archive_format.specs.Records.{record-is, found-is}
 
 -- ---- one record more
-
-titled-append : (fs gs : List Filed) → titled (fs ++ gs) ≡ (titled fs && titled gs)
-unfolding titled
-titled-append [] gs = refl
-titled-append (f ∷ fs) gs = rw (titled-append fs gs) (sym (and-assoc (printables (f .title)) (titled fs) (titled gs)))
-
-rising-append : (p : ℕ) (fs gs : List Filed) → rising p (fs ++ gs) ≡ (rising p fs && rising (lastNumber p fs) gs)
-unfolding rising lastNumber
-rising-append p [] gs = refl
-rising-append p (f ∷ fs) gs =
-    rw (rising-append (numberOf f) fs gs) (sym (and-assoc (ltb p (numberOf f)) (rising (numberOf f) fs) (rising (lastNumber (numberOf f) fs) gs)))
-
-shaped-append : (size : ℕ) (fs gs : List Filed) → Shaped size fs → Shaped size gs → Shaped size (fs ++ gs)
-shaped-append size [] gs h k = k
-shaped-append size (f ∷ fs) gs h k = (h .0, h .1, shaped-append size fs gs (h .2) k)
 
 -- what adding asks of a record and its title, after the records of an archive
 pub record Accepts (e : Edition) (fs : List Filed) (b t : List ℕ) : Type 0 where
@@ -103,28 +92,11 @@ module _ (e : Edition) (l b t new : List ℕ) (fs : List Filed) (old : decode e 
         title = title-is e new n p again ∙ ap (λ (z : Filed). z .title) same ∙ sym (title-is e l n p f);
       }
 
-  -- a number that the old archive has not
-  module _ (n : ℕ) (gone : findOf e l n ≡ refused 6) where
-    find-last : Shaped (e .size) fs → findOf e new n ≡ findIn (e .size) (length (body fs)) (single b t) n
-    unfolding findOf
-    find-last shaped = rw more (find-after (e .size) 0 fs (single b t) n 6 shaped (rw old at gone) ∙ rw zero-add)
-
-    still-absent : Shaped (e .size) fs → (word4 b 0 ≡ n → ⊥) → findOf e new n ≡ refused 6
-    unfolding findIn
-    still-absent shaped other = find-last shaped ∙ rw (ne-eqb _ _ other)
-
-    lookup-last : word4 b 0 ≡ n → lookup (fs ++ single b t) n ≡ ok (record { bytes = b; title = t })
-    unfolding lookup
-    lookup-last same = lookup-after fs (single b t) n 6 (absent-is e l fs n 6 old gone) ∙ rw (eq-eqb _ _ same)
-
-    find-new : Shaped (e .size) fs → word4 b 0 ≡ n → findOf e new n ≡ ok (length (body fs))
-    unfolding findIn
-    find-new shaped same = find-last shaped ∙ rw (eq-eqb _ _ same)
-
-  -- the new number is above the others, so the old archive has it not
-  new-gone : rising 0 fs ≡ true → lastNumber 0 fs < word4 b 0 → findOf e l (word4 b 0) ≡ refused 6
-  unfolding findOf
-  new-gone risen above = rw old (find-above (e .size) 0 0 fs (word4 b 0) risen above)
+  -- a number that the old archive has not, and the record has not
+  still-absent : (n : ℕ) → (word4 b 0 ≡ n → ⊥) → findOf e l n ≡ refused 6 → findOf e new n ≡ refused 6
+  unfolding lookup
+  still-absent n other gone =
+      find-absent e new (fs ++ single b t) n 6 more (lookup-after fs (single b t) n 6 (absent-is e l fs n 6 old gone) ∙ rw (ne-eqb _ _ other))
 
   place-kept : (i p : ℕ) → placeOf e l i ≡ ok p → placeOf e new i ≡ ok p
   unfolding placeOf
@@ -134,12 +106,11 @@ module _ (e : Edition) (l b t new : List ℕ) (fs : List Filed) (old : decode e 
   unfolding countOf
   counted = rw (more, length-append fs (single b t))
 
-  read-back : Fit e fs → Accepts e fs b t → Added e l b t new
-  read-back f w =
-      let gone : findOf e l (word4 b 0) ≡ refused 6 = new-gone (f .risen) (w .above) in
-      let found : findOf e new (word4 b 0) ≡ ok (length (body fs)) = find-new (word4 b 0) gone (f .shaped) refl in
-      let same : filedAt (e .size) new (length (body fs)) ≡ record { bytes = b; title = t } =
-      cc (lookup-last (word4 b 0) gone refl, find-is e new (fs ++ single b t) (word4 b 0) (length (body fs)) more found) in
+  read-back : Added e l b t new
+  read-back =
+      let f : Filed = record { bytes = b; title = t } in
+      let found : findOf e new (word4 b 0) ≡ ok (length (body fs)) = found-is e new fs f [] more in
+      let same : filedAt (e .size) new (length (body fs)) ≡ f = record-is e new fs f [] more in
       record {
         fs = fs;
         old = old;
@@ -150,7 +121,7 @@ module _ (e : Edition) (l b t new : List ℕ) (fs : List Filed) (old : decode e 
         title = title-is e new (word4 b 0) (length (body fs)) found ∙ ap (λ (z : Filed). z .title) same;
         kept = keep;
         placed = place-kept;
-        absent = λ n other h. still-absent n h (f .shaped) other;
+        absent = still-absent;
       }
 
 pub added : (e : Edition) (l b t : List ℕ) (room : ℕ) (new : List ℕ) → addOf e l b t room ≡ ok new → Added e l b t new
@@ -162,4 +133,30 @@ added e l b t room new a = go (decode e l) refl a
     go (ok fs) r a =
         let w : Accepts e fs b t × (new ≡ encode e (fs ++ single b t)) = accepted e fs b t room new a in
         let f : Fit e fs = decoded-is-fit e l fs r in
-        read-back e l b t new fs r (rw (w .1) (encoding-reads e (fs ++ single b t) (fit-more e fs b t f (w .0)))) f (w .0)
+        read-back e l b t new fs r (rw (w .1) (encoding-reads e (fs ++ single b t) (fit-more e fs b t f (w .0))))
+
+-- ---- the records of a fit list are accepted in turn
+
+-- adding accepts what it asks for, where the buffer holds the new archive
+accepts : (e : Edition) (l : List ℕ) (fs : List Filed) (b t : List ℕ) (room : ℕ) → decode e l ≡ ok fs → Accepts e fs b t
+    → length (encode e (fs ++ single b t)) ≤ room → addOf e l b t room ≡ ok (encode e (fs ++ single b t))
+unfolding addOf addTo need
+accepts e l fs b t room r w h = rw (r, eq-eqb _ _ (w .sized), le-leb _ _ (w .short), w .clean, lt-ltb _ _ (w .above), le-leb _ _ h, lt-ltb _ _ (w .free))
+
+-- the next record of a fit list
+pub next-accepted : (e : Edition) (fs : List Filed) (g : Filed) (gs : List Filed) (room : ℕ) → Fit e (fs ++ (g ∷ gs))
+    → length (encode e (fs ++ (g ∷ gs))) ≤ room → addOf e (encode e fs) (g .bytes) (g .title) room ≡ ok (encode e (fs ++ (g ∷ [])))
+unfolding titled rising
+next-accepted e fs g gs room f h =
+    let s : Shaped (e .size) fs × Shaped (e .size) (g ∷ gs) = shaped-parts (e .size) fs (g ∷ gs) (f .shaped) in
+    let titles : (printables (g .title) ≡ true) × (titled gs ≡ true) = both _ _ (fit-titles e fs (g ∷ gs) f) in
+    let rises : (ltb (lastNumber 0 fs) (numberOf g) ≡ true) × (rising (numberOf g) gs ≡ true) = both _ _ (fit-rises e fs (g ∷ gs) f) in
+    let w : Accepts e fs (g .bytes) (g .title) = record {
+      sized = s .1 .0;
+      short = s .1 .1;
+      clean = titles .0;
+      above = ltb-true _ _ (rises .0);
+      free = omega (arith, f .many, length-append fs (g ∷ gs));
+    } in
+    let enough : length (encode e (fs ++ (g ∷ []))) ≤ room = omega (arith, rw (append-snoc fs g gs) at (length-more e (fs ++ (g ∷ [])) gs)) in
+    accepts e (encode e fs) fs (g .bytes) (g .title) room (encoding-reads e fs (fit-first e fs (g ∷ gs) f)) w enough

@@ -12,6 +12,8 @@ use Rattle.segment.specs.Layout as layout
 use Rattle.archive_format.specs.declared.Edition.{Edition}
 use Rattle.archive_format.specs.declared.Answer.{Answer}
 use Rattle.archive_format.specs.declared.Answer.the-variants.{Is, Refused}
+use Rattle.archive_format.specs.declared.TitlePart.{TitlePart}
+use Rattle.archive_format.specs.declared.TitlePart.the-variants.{Part, Refused as NoPart}
 
 -- the most records that an archive holds
 abbrev pub recordLimit : ℕ
@@ -142,13 +144,23 @@ findIn size p (f ∷ fs) n = cond (eqb (numberOf f) n) (ok p) (findIn size (p + 
 unfoldable pub findOf : Edition → List ℕ → ℕ → Or ℕ
 findOf e l n = andThen (decode e l) (λ fs. findIn (e .size) 0 fs n)
 
--- the title of the record at a place, as part of the archive; empty where there is no place
-abbrev pub titleAt : ℕ → List ℕ → Or ℕ → List ℕ
-titleAt size l (refused n) = []
-titleAt size l (ok p) = take (getD l (p + size) 0) (drop (p + size + 1) l)
+-- where the title of the record at a place stands, behind the record and its own length; and that length
+abbrev pub titlePartAt : ℕ → List ℕ → Or ℕ → TitlePart
+titlePartAt size l (refused n) = NoPart n
+titlePartAt size l (ok p) = Part (p + size + 1) (getD l (p + size) 0)
 
+-- of the record with a number
+unfoldable pub titlePartOf : Edition → List ℕ → ℕ → TitlePart
+titlePartOf e l n = titlePartAt (e .size) l (findOf e l n)
+
+-- the bytes of an archive at a place and of a length; none where there is no place
+abbrev pub bytesAt : List ℕ → TitlePart → List ℕ
+bytesAt l (NoPart n) = []
+bytesAt l (Part place size) = take size (drop place l)
+
+-- a title is the part of the archive at its place and of its length
 unfoldable pub titleOf : Edition → List ℕ → ℕ → List ℕ
-titleOf e l n = titleAt (e .size) l (findOf e l n)
+titleOf e l n = bytesAt l (titlePartOf e l n)
 
 abbrev pub single : List ℕ → List ℕ → List Filed
 single b t = record { bytes = b; title = t } ∷ []

@@ -11,13 +11,14 @@ use borrow.Author.Tests.{le-leb, eq-eqb}
 use Rattle.refusal.specs.Refusal.{ok, need}
 use Rattle.octets.specs.Octets.{word2, bytes2}
 use Rattle.archive_format.specs.declared.Edition.{Edition}
-use Rattle.archive_format.specs.Archive.{titleLimit, Filed, body, places, encode, nextAt, filedAt, filedFrom, runs, decodeBody, countAt, trailerAt, decode}
+use Rattle.archive_format.specs.Archive.{titleLimit, Filed, body, places, encode, titled, rising}
+use Rattle.archive_format.specs.Archive.{nextAt, filedAt, filedFrom, runs, decodeBody, countAt, trailerAt, decode}
 use Rattle.archive_format.specs.Words.{word-of}
 use Rattle.archive_format.specs.Decoded.{Shaped, Fit}
 
 module _ (size : ℕ) (f : Filed) (l : List ℕ) (at : ℕ) (r : List ℕ) (hs : length (f .bytes) ≡ size)
     (h : drop at l ≡ f .bytes ++ (length (f .title) ∷ (f .title ++ r))) where
-  laid-length : getD l (at + size) 0 ≡ length (f .title)
+  pub laid-length : getD l (at + size) 0 ≡ length (f .title)
   laid-length = sym (getD-drop at l size 0) ∙ ap (λ (z : List ℕ). getD z size 0) h ∙ getD-at (f .bytes) (length (f .title)) (f .title ++ r) 0 size hs
 
   laid-title : drop (at + size + 1) l ≡ f .title ++ r
@@ -29,7 +30,7 @@ module _ (size : ℕ) (f : Filed) (l : List ℕ) (at : ℕ) (r : List ℕ) (hs :
   laid-next =
       rw laid-length (sym (drop-drop (length (f .title)) (at + size + 1) l) ∙ ap (λ (z : List ℕ). drop (length (f .title)) z) laid-title ∙ drop-at (f .title) r (length (f .title)) refl)
 
-  laid-record : filedAt size l at ≡ f
+  pub laid-record : filedAt size l at ≡ f
   laid-record =
       let b : take size (drop at l) ≡ f .bytes = ap (λ (z : List ℕ). take size z) h ∙ take-at (f .bytes) (length (f .title) ∷ (f .title ++ r)) size hs in
       let t : take (getD l (at + size) 0) (drop (at + size + 1) l) ≡ f .title =
@@ -105,6 +106,10 @@ encoding-reads e fs fit =
     let six : 6 ≤ length l = omega arith in
     let sized : t + 2 * k + 6 ≡ length l = sym n in
     rw (le-leb _ _ six, eq-eqb _ _ first, eq-eqb _ _ second, count, trailer, le-leb _ _ (fit .many), eq-eqb _ _ sized, ran .run, ran .held, fit .titles, fit .risen)
+
+pub empty-reads : (e : Edition) → decode e (encode e []) ≡ ok []
+unfolding titled rising
+empty-reads e = encoding-reads e [] (record { shaped = tt; titles = refl; risen = refl; many = omega arith })
 
 -- two different lists never have the same bytes
 pub encoding-differs : (e : Edition) (fs gs : List Filed) → Fit e fs → Fit e gs → encode e fs ≡ encode e gs → fs ≡ gs

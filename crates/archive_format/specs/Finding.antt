@@ -5,14 +5,17 @@ use mathlib.Core.Path.{_≡_, refl, ap, _∙_}
 use mathlib.Core.Bool.{Bool, true, false, cond}
 use mathlib.Core.List.{List, [], _∷_, _++_}
 use lib.Dec.{eqb, ltb}
-use lib.ListN.{length, length-append}
+use lib.ListN.{length, getD}
 use borrow.Author.Tests.{eqb-true, ne-eqb, ltb-true}
 use Rattle.refusal.specs.Refusal.{Or, refused, ok, andThen, both}
 use Rattle.octets.specs.Octets.{word2}
 use Rattle.archive_format.specs.declared.Edition.{Edition}
-use Rattle.archive_format.specs.Archive.{Filed, numberOf, body, rising, lastNumber, nextAt, filedAt, filedFrom, runs, countAt, trailerAt, decode, placeIn, findIn, findOf, titleOf}
+use Rattle.archive_format.specs.declared.TitlePart.the-variants.{Part}
+use Rattle.archive_format.specs.Archive.{Filed, numberOf, body, rising, lastNumber, nextAt, filedAt, filedFrom, runs, countAt, trailerAt, decode}
+use Rattle.archive_format.specs.Archive.{placeIn, findIn, findOf, titlePartAt, titlePartOf, titleOf}
 use Rattle.archive_format.specs.Reading.{title-length, Ran, ran, Reads, reads}
 use Rattle.archive_format.specs.Decoded.{Shaped}
+use Rattle.archive_format.specs.Joined.{body-next}
 
 -- the record with a number, in a list
 unfoldable pub lookup : List Filed → ℕ → Or Filed
@@ -61,6 +64,13 @@ absent-is e l fs n m r f = go (searched e l fs n r)
     go (absent x y) = y
     go (present o x y w) = absurd (let z : _≡_ {A = ℕ} 0 1 = cc in omega arith)
 
+pub find-absent : (e : Edition) (l : List ℕ) (fs : List Filed) (n m : ℕ) → decode e l ≡ ok fs → lookup fs n ≡ refused m → findOf e l n ≡ refused 6
+find-absent e l fs n m r g = go (searched e l fs n r)
+  where
+    go : Search (e .size) l (trailerAt l) (findOf e l n) (lookup fs n) → findOf e l n ≡ refused 6
+    go (absent x y) = x
+    go (present o x y w) = absurd (let z : _≡_ {A = ℕ} 0 1 = cc in omega arith)
+
 -- whole, with its title, before the archive ends
 pub find-within : (e : Edition) (l : List ℕ) (n p : ℕ) → findOf e l n ≡ ok p → nextAt (e .size) l p ≤ length l
 unfolding findOf
@@ -74,9 +84,21 @@ find-within e l n p found = go (decode e l) refl found
     go (refused m) r f = absurd (let z : _≡_ {A = ℕ} 0 1 = cc in omega arith)
     go (ok fs) r f = inside fs (reads e l fs r) (searched e l fs n r)
 
+-- a title's part lies in the archive
+pub part-within : (e : Edition) (l : List ℕ) (n place size : ℕ) → titlePartOf e l n ≡ Part place size → place + size ≤ length l
+unfolding titlePartOf
+part-within e l n place size = go (findOf e l n) refl
+  where
+    go : (x : Or ℕ) → findOf e l n ≡ x → titlePartAt (e .size) l x ≡ Part place size → place + size ≤ length l
+    go (refused m) f t = absurd (let z : _≡_ {A = ℕ} 0 1 = cc in omega arith)
+    go (ok p) f t =
+        let at-place : p + e .size + 1 ≡ place = cc in
+        let so-long : getD l (p + e .size) 0 ≡ size = cc in
+        omega (arith, find-within e l n p f)
+
 -- the title handed back is that record's
 pub title-is : (e : Edition) (l : List ℕ) (n p : ℕ) → findOf e l n ≡ ok p → titleOf e l n ≡ filedAt (e .size) l p .title
-unfolding titleOf
+unfolding titleOf titlePartOf
 title-is e l n p f = rw f
 
 -- a record found has the number looked for
@@ -127,11 +149,9 @@ find-more size at (f ∷ fs) gs n p h = go (eqb (numberOf f) n) h (find-more siz
 pub find-after : (size at : ℕ) (fs gs : List Filed) (n m : ℕ) → Shaped size fs → findIn size at fs n ≡ refused m → findIn size at (fs ++ gs) n ≡ findIn size (at + length (body fs)) gs n
 unfolding findIn body
 find-after size at [] gs n m s h = let z : at ≡ at + 0 = omega arith in ap (λ (y : ℕ). findIn size y gs n) z
-find-after size at (f ∷ fs) gs n m s h = go (eqb (numberOf f) n) h (find-after size (at + size + 1 + length (f .title)) fs gs n m (s .2)) next
+find-after size at (f ∷ fs) gs n m s h =
+    go (eqb (numberOf f) n) h (find-after size (at + size + 1 + length (f .title)) fs gs n m (s .2)) (body-next size at f fs (s .0))
   where
-    next : at + size + 1 + length (f .title) + length (body fs) ≡ at + length (f .bytes ++ (length (f .title) ∷ (f .title ++ body fs)))
-    next = simp length-append (omega (arith, s .0))
-
     go : (b : Bool) → cond b (ok at) (findIn size (at + size + 1 + length (f .title)) fs n) ≡ refused m
         → (findIn size (at + size + 1 + length (f .title)) fs n ≡ refused m → findIn size (at + size + 1 + length (f .title)) (fs ++ gs) n ≡ findIn size (at + size + 1 + length (f .title) + length (body fs)) gs n)
         → at + size + 1 + length (f .title) + length (body fs) ≡ at + length (f .bytes ++ (length (f .title) ∷ (f .title ++ body fs)))

@@ -29,6 +29,12 @@ pub enum Answer {
     Is(usize),
 }
 
+// Where a title stands in its archive, and its length; or the paper's number of a refusal.
+pub enum TitlePart {
+    Refused(u32),
+    Part { place: usize, length: usize },
+}
+
 // The archive with no records.
 pub fn empty() -> [u8; 6]
     ensures { λ r. ⌜ r ≡ encode segments [] ⌝ }

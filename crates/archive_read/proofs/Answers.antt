@@ -9,7 +9,8 @@ use Rattle.octets.specs.Octets.{word2}
 use Rattle.archive_format.specs.declared.Edition.{Edition}
 use Rattle.archive_format.specs.declared.Answer.{Answer}
 use Rattle.archive_format.specs.declared.Answer.the-variants.{Is, Refused}
-use Rattle.archive_format.specs.Archive.{filedFrom, nextAt, decode, answerOf, countOf, placeOf, findIn, findOf, titleOf}
+use Rattle.archive_format.specs.declared.TitlePart.the-variants.{Part, Refused as NoPart}
+use Rattle.archive_format.specs.Archive.{filedFrom, nextAt, decode, answerOf, countOf, placeOf, findIn, findOf, titlePartOf, titleOf}
 use Rattle.archive_format.specs.Reading.{filed-length}
 use Rattle.archive_format.specs.Finding.{find-within, place-at, place-beyond}
 use Rattle.archive_open.specs.declared.Opened.the-variants.{Invalid}
@@ -45,7 +46,7 @@ module _ (e : Edition) (l : List ℕ) where
     unfolding findOf
     find-valid n w = w ∙ sym (rw (held-filed e l h))
 
--- ---- a title, by what finding answered
+-- ---- a title's part, by what finding answered
 
 answer-ok : (x : Or ℕ) (p : ℕ) → answerOf x ≡ Is p → x ≡ ok p
 answer-ok (refused n) p a = absurd (let z : _≡_ {A = ℕ} 0 1 = cc in omega arith)
@@ -56,15 +57,24 @@ answer-refused (refused n) p a = let z : n ≡ p = cc in rw z
 answer-refused (ok m) p a = absurd (let z : _≡_ {A = ℕ} 0 1 = cc in omega arith)
 
 module _ (e : Edition) (l : List ℕ) (n p : ℕ) where
-  pub title-within : answerOf (findOf e l n) ≡ Is p → nextAt (e .size) l p ≤ length l
-  title-within a = find-within e l n p (answer-ok (findOf e l n) p a)
+  pub found-within : answerOf (findOf e l n) ≡ Is p → nextAt (e .size) l p ≤ length l
+  found-within a = find-within e l n p (answer-ok (findOf e l n) p a)
 
-  pub title-found : (m : ℕ) → answerOf (findOf e l n) ≡ Is p → m ≡ getD l (p + e .size) 0 → take (p + e .size + 1 + m - (p + e .size + 1)) (drop (p + e .size + 1) l) ≡ titleOf e l n
-  unfolding titleOf
-  title-found m a em =
-      let c : p + e .size + 1 + m - (p + e .size + 1) ≡ m = omega arith in
-      rw (c, em, answer-ok (findOf e l n) p a)
+  pub part-found : (m : ℕ) → answerOf (findOf e l n) ≡ Is p → m ≡ getD l (p + e .size) 0 → Part (p + e .size + 1) m ≡ titlePartOf e l n
+  unfolding titlePartOf
+  part-found m a em = sym (rw (answer-ok (findOf e l n) p a, em))
 
-  pub title-none : answerOf (findOf e l n) ≡ Refused p → [] ≡ titleOf e l n
+  pub part-none : answerOf (findOf e l n) ≡ Refused p → NoPart p ≡ titlePartOf e l n
+  unfolding titlePartOf
+  part-none a = sym (rw (answer-refused (findOf e l n) p a))
+
+-- ---- a title, by what its part was answered
+
+module _ (e : Edition) (l : List ℕ) (n : ℕ) where
+  pub title-found : (place size : ℕ) → titlePartOf e l n ≡ Part place size → take (place + size - place) (drop place l) ≡ titleOf e l n
   unfolding titleOf
-  title-none a = sym (rw (answer-refused (findOf e l n) p a))
+  title-found place size t = let c : place + size - place ≡ size = omega arith in sym (rw (t, c))
+
+  pub title-none : (m : ℕ) → titlePartOf e l n ≡ NoPart m → [] ≡ titleOf e l n
+  unfolding titleOf
+  title-none m t = sym (rw t)

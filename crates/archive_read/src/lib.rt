@@ -4,10 +4,11 @@ ghost use mathlib.Core.Path.{_≡_};
 ghost use mathlib.Core.Bool.{true};
 ghost use Prim.Native.Nat.{_≤_};
 ghost use lib.ListN.{length};
-ghost use Rattle.archive_format.specs.Archive.{Sized, filedFrom, runs, findIn, answerOf, countOf, placeOf, findOf, titleOf, segments};
+ghost use Rattle.archive_format.specs.Archive.{Sized, filedFrom, runs, findIn, answerOf, countOf, placeOf, findOf, titlePartOf, titleOf, segments};
 use archive_format::Answer;
 use archive_format::Edition;
 use archive_format::SEGMENTS;
+use archive_format::TitlePart;
 use archive_open::Opened;
 
 // The place of the record with a number, in an archive that was read.
@@ -78,18 +79,18 @@ fn find_in(e: Edition, s: &[u8], number: u32) -> Answer
     }
 }
 
-fn title_in<'a>(e: Edition, s: &'a [u8], number: u32) -> &'a [u8]
+fn title_part_in(e: Edition, s: &[u8], number: u32) -> TitlePart
     requires { ⌜ Sized (e .size) ⌝ }
-    ensures { λ r. ⌜ now r ≡ titleOf e (now (s .entry)) number ⌝ }
+    ensures { λ r. ⌜ r ≡ titlePartOf e (now (s .entry)) number ⌝ }
 {
     let size = e.size;
     let f = find_in(e, s, number);
     match f {
-        Answer::Is(at) => {
-            let n = archive_open::long(s[at + size]);
-            &s[at + size + 1..at + size + 1 + n]
-        }
-        Answer::Refused(_) => &s[0..0],
+        Answer::Refused(n) => TitlePart::Refused(n),
+        Answer::Is(at) => TitlePart::Part {
+            place: at + size + 1,
+            length: archive_open::long(s[at + size]),
+        },
     }
 }
 
@@ -114,9 +115,20 @@ pub fn find(archive: &[u8], number: u32) -> Answer
     find_in(SEGMENTS, archive, number)
 }
 
-// The title of the record with a number, as part of the archive; empty where finding refuses.
+// Where the title of the record with a number stands in the archive, and its length; finding's number where it refuses.
+pub fn title_part(archive: &[u8], number: u32) -> TitlePart
+    ensures { λ r. ⌜ r ≡ titlePartOf segments (now (archive .entry)) number ⌝ }
+{
+    title_part_in(SEGMENTS, archive, number)
+}
+
+// The title of the record with a number: the part of the archive that `title_part` answers, empty where it refuses.
 pub fn title<'a>(archive: &'a [u8], number: u32) -> &'a [u8]
     ensures { λ r. ⌜ now r ≡ titleOf segments (now (archive .entry)) number ⌝ }
 {
-    title_in(SEGMENTS, archive, number)
+    let part = title_part(archive, number);
+    match part {
+        TitlePart::Part { place, length } => &archive[place..place + length],
+        TitlePart::Refused(_) => &archive[0..0],
+    }
 }

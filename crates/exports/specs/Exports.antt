@@ -1,9 +1,9 @@
 -- The library's answers as structs of numbers: the paper's number, 0 where accepted, and the values beside it.
-use Prim.Native.Nat.{ℕ, _+_}
+use Prim.Native.Nat.{ℕ}
 use mathlib.Core.Path.{_≡_}
 use mathlib.Core.List.{List}
 use lib.Ieee.{Float}
-use lib.ListN.{length, getD}
+use lib.ListN.{length}
 use Rattle.flows.specs.Flows.{zero64}
 use Rattle.segment.specs.Segment.{segmentOf}
 use Rattle.propagation.specs.Propagation.{Profiles}
@@ -18,7 +18,8 @@ use Rattle.discharge.specs.declared.Discharged.the-variants.{Refused as Refused
 use Rattle.discharge.specs.Discharge.{acceptOf, answerOf, profileAfter, EntriesDischarge}
 use Rattle.archive_format.specs.declared.Answer.{Answer}
 use Rattle.archive_format.specs.declared.Answer.the-variants.{Is, Refused}
-use Rattle.archive_format.specs.Archive.{segments}
+use Rattle.archive_format.specs.declared.TitlePart.{TitlePart}
+use Rattle.archive_format.specs.declared.TitlePart.the-variants.{Part, Refused as NoPart}
 use Rattle.exports.specs.declared.WorkTold.{WorkTold}
 use Rattle.exports.specs.declared.VolumesTold.{VolumesTold}
 use Rattle.exports.specs.declared.ValueTold.{ValueTold}
@@ -65,7 +66,6 @@ abbrev pub valueOf : Answer → ValueTold
 valueOf (Refused n) = record { number = n; value = 0 }
 valueOf (Is n) = record { number = 0; value = n }
 
--- the title of the record that finding answered: it follows the record and its own length
-abbrev pub titlePartOf : List ℕ → Answer → TitleTold
-titlePartOf l (Refused n) = record { number = n; place = 0; length = 0 }
-titlePartOf l (Is p) = record { number = 0; place = p + segments .size + 1; length = getD l (p + segments .size) 0 }
+abbrev pub titleToldOf : TitlePart → TitleTold
+titleToldOf (NoPart n) = record { number = n; place = 0; length = 0 }
+titleToldOf (Part place size) = record { number = 0; place = place; length = size }

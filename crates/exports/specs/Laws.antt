@@ -22,11 +22,13 @@ use Rattle.discharge.specs.declared.Discharged.{Discharged}
 use Rattle.discharge.specs.declared.Discharged.the-variants.{Refused as RefusedVolumes, Volumes}
 use Rattle.discharge.specs.Discharge.{EntriesDischarge, Calls}
 use Rattle.discharge.specs.Laws.{refused-above}
-use Rattle.archive_format.specs.Archive.{answerOf, findOf, segments, titleAt, titleOf}
+use Rattle.archive_format.specs.declared.TitlePart.{TitlePart}
+use Rattle.archive_format.specs.declared.TitlePart.the-variants.{Part, Refused as NoPart}
+use Rattle.archive_format.specs.Archive.{segments, bytesAt, titlePartOf, titleOf}
 use Rattle.exports.specs.declared.WorkTold.{WorkTold}
 use Rattle.exports.specs.declared.VolumesTold.{VolumesTold}
 use Rattle.exports.specs.declared.TitleTold.{TitleTold}
-use Rattle.exports.specs.Exports.{WorksTold, sumOf, toldOf, DischargesTold, volumesOf, titlePartOf}
+use Rattle.exports.specs.Exports.{WorksTold, sumOf, toldOf, DischargesTold, volumesOf, titleToldOf}
 
 -- nothing is lost: number and sum say which outcome it was
 pub told-outcome : (n : ℕ) (sum : Float) → outcomeOf (numberOf (outcomeOf n sum)) (sumOf (outcomeOf n sum)) ≡ outcomeOf n sum
@@ -99,10 +101,10 @@ abbrev pub partOf : TitleTold → List ℕ → List ℕ
 partOf t l = take (t .length) (drop (t .place) l)
 
 -- the part of the archive that is told is the title
-pub title-told : (l : List ℕ) (n : ℕ) → partOf (titlePartOf l (answerOf (findOf segments l n))) l ≡ titleOf segments l n
+pub title-told : (l : List ℕ) (n : ℕ) → partOf (titleToldOf (titlePartOf segments l n)) l ≡ titleOf segments l n
 unfolding titleOf
-title-told l n = go (findOf segments l n)
+title-told l n = go (titlePartOf segments l n)
   where
-    go : (x : Or ℕ) → partOf (titlePartOf l (answerOf x)) l ≡ titleAt (segments .size) l x
-    go (refused m) = refl
-    go (ok p) = refl
+    go : (t : TitlePart) → partOf (titleToldOf t) l ≡ bytesAt l t
+    go (NoPart m) = refl
+    go (Part place size) = refl

@@ -4,10 +4,11 @@ ghost use mathlib.Core.Path.{_≡_};
 ghost use lib.ListN.{length};
 ghost use Rattle.propagation.specs.Propagation.{profiles};
 ghost use Rattle.outcome.specs.Outcome.{numberOf};
-ghost use Rattle.archive_format.specs.Archive.{addOf, answerOf, countOf, findOf, newLength, overwrite, placeOf, segments};
+ghost use Rattle.archive_format.specs.Archive.{addOf, answerOf, countOf, findOf, newLength, overwrite, placeOf, segments, titlePartOf};
 ghost use Rattle.report.specs.Report.{reportOf};
-ghost use Rattle.exports.specs.Exports.{WorksTold, sumOf, toldOf, DischargesTold, volumesOf, valueOf, titlePartOf};
+ghost use Rattle.exports.specs.Exports.{WorksTold, sumOf, toldOf, DischargesTold, volumesOf, valueOf, titleToldOf};
 use archive_format::Answer;
+use archive_format::TitlePart;
 use discharge::Discharged;
 use exit_figures::ExitFigures;
 use outcome::Outcome;
@@ -178,22 +179,22 @@ pub extern "C" fn archive_find(archive: &[u8], number: u32) -> ValueTold
     value(archive_read::find(archive, number))
 }
 
-// `archive_read::title`, as a place in the archive and a length, since no reference is handed to C.
+// `archive_read::title_part`; no reference is handed to C.
 #[no_mangle]
 pub extern "C" fn archive_title(archive: &[u8], number: u32) -> TitleTold
-    ensures { λ r. ⌜ r ≡ titlePartOf (now (archive .entry)) (answerOf (findOf segments (now (archive .entry)) number)) ⌝ }
+    ensures { λ r. ⌜ r ≡ titleToldOf (titlePartOf segments (now (archive .entry)) number) ⌝ }
 {
-    let found = archive_read::find(archive, number);
-    match found {
-        Answer::Refused(n) => TitleTold {
+    let part = archive_read::title_part(archive, number);
+    match part {
+        TitlePart::Refused(n) => TitleTold {
             number: n,
             place: 0,
             length: 0,
         },
-        Answer::Is(at) => TitleTold {
+        TitlePart::Part { place, length } => TitleTold {
             number: 0,
-            place: at + segment::SIZE + 1,
-            length: archive[at + segment::SIZE] as usize,
+            place: place,
+            length: length,
         },
     }
 }

@@ -1,12 +1,70 @@
+-- A title is the part of the archive that `title_part` answered: it lies in the archive, and is empty where finding refuses.
+use Prim.Native.Nat.{_+_, _≤_}
+use native.Mathlib.Omega.{arith}
+use mathlib.Core.Path.{sym, _∙_}
+use lib.ListN.{length}
 use borrow.Author.Needs.{needs}
+use Rattle.archive_format.specs.Finding.{part-within}
+use Rattle.archive_read.proofs.Answers.{title-found, title-none}
 use Rattle.archive_read.proofs.title.Statement.{statement}
 use Rattle.archive_read.proofs.title.Tie as tie
 
-title-in-requires : tie.Need-title-in-requires
-title-in-requires c κs = search needs
+here : (c : tie.After-part) → c .part .given .0 .0 + c .part .given .0 .1 .0 ≤ length (c .before .before .before .before .args .archive .now)
+here c = part-within _ _ _ _ _ (sym (c .before .before .title-part .ensures) ∙ c .part .given .1)
+
+title-part-requires : tie.Need-title-part-requires
+title-part-requires c κs = search needs
+
+enum-known-part : tie.Need-enum-known-part
+enum-known-part c = search needs
+
+add-result : tie.Need-add-result
+add-result c = omega (arith, here (c .before))
+
+sub-result : tie.Need-sub-result
+sub-result c = search needs
+
+part-result-start : tie.Need-part-result-start
+part-result-start c = search needs
+
+part-result-end : tie.Need-part-result-end
+part-result-end c = omega (arith, here (c .before))
+
+enum-told : tie.Need-enum-told
+enum-told c = search needs
+
+sub-result-2 : tie.Need-sub-result-2
+sub-result-2 c = search needs
+
+part-result-start-2 : tie.Need-part-result-start-2
+part-result-start-2 c = search needs
+
+part-result-end-2 : tie.Need-part-result-end-2
+part-result-end-2 c = search needs
 
 returns : tie.Need-returns
-returns c = search needs
+returns c =
+    let at-part = c .before .before in
+    title-found _ _ _ _ _ (sym (at-part .before .before .title-part .ensures) ∙ at-part .part .given .1)
+
+returns-2 : tie.Need-returns-2
+returns-2 c =
+    let at-none = c .before in
+    title-none _ _ _ _ (sym (at-none .before .before .title-part .ensures) ∙ at-none .enum-told .given .1)
 
 pub title-spec : {M : Type 1} → statement M
-title-spec = tie.close (tie.spec title-in-requires returns)
+title-spec =
+    tie.close
+    (tie.spec
+    title-part-requires
+    enum-known-part
+    add-result
+    sub-result
+    part-result-start
+    part-result-end
+    enum-told
+    sub-result-2
+    part-result-start-2
+    part-result-end-2
+    returns
+    returns-2)
