@@ -1,7 +1,7 @@
 // Adding a record to an archive: the old archive and one record more are written to a second buffer.
 ghost use mathlib.Core.Path.{_≡_};
 ghost use lib.ListN.{length};
-ghost use Rattle.archive_format.specs.Archive.{Sized, titleFits, addOf, newLength, overwrite, segments};
+ghost use Rattle.archive_format.specs.Archive.{Sized, titleFits, segments};
 ghost use Rattle.archive_add.specs.Adds.{Adds};
 use archive_format::Answer;
 use archive_format::Edition;
@@ -59,8 +59,7 @@ fn add_in(e: Edition, s: &[u8], segment: &[u8], title: &[u8], out: &mut [u8]) ->
 
 // Writes the archive with one record more to the buffer and returns its length; a refusal writes nothing, and bytes beyond stay.
 pub fn add(archive: &[u8], segment: &[u8], title: &[u8], buffer: &mut [u8]) -> Answer
-    ensures { λ r. ⌜ r ≡ newLength (addOf segments (now (archive .entry)) (now (segment .entry)) (now (title .entry)) (length (now (buffer .entry)))) ⌝ }
-    ensures { λ _. ⌜ now (buffer .exit) ≡ overwrite (addOf segments (now (archive .entry)) (now (segment .entry)) (now (title .entry)) (length (now (buffer .entry)))) (now (buffer .entry)) ⌝ }
+    ensures { λ r. ⌜ Adds segments (now (archive .entry)) (now (segment .entry)) (now (title .entry)) (now (buffer .entry)) r (now (buffer .exit)) ⌝ }
 {
     add_in(SEGMENTS, archive, segment, title, buffer)
 }

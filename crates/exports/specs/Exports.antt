@@ -4,6 +4,7 @@ use mathlib.Core.Path.{_≡_}
 use mathlib.Core.List.{List}
 use lib.Ieee.{Float}
 use lib.ListN.{length}
+use Rattle.refusal.specs.Refusal.{Or}
 use Rattle.flows.specs.Flows.{zero64}
 use Rattle.segment.specs.Segment.{segmentOf}
 use Rattle.propagation.specs.Propagation.{Profiles}
@@ -20,6 +21,7 @@ use Rattle.archive_format.specs.declared.Answer.{Answer}
 use Rattle.archive_format.specs.declared.Answer.the-variants.{Is, Refused}
 use Rattle.archive_format.specs.declared.TitlePart.{TitlePart}
 use Rattle.archive_format.specs.declared.TitlePart.the-variants.{Part, Refused as NoPart}
+use Rattle.archive_format.specs.Archive.{newLength, overwrite}
 use Rattle.exports.specs.declared.WorkTold.{WorkTold}
 use Rattle.exports.specs.declared.VolumesTold.{VolumesTold}
 use Rattle.exports.specs.declared.ValueTold.{ValueTold}
@@ -65,6 +67,11 @@ pub record DischargesTold (l p : List ℕ) (r : VolumesTold) (p′ : List ℕ) :
 abbrev pub valueOf : Answer → ValueTold
 valueOf (Refused n) = record { number = n; value = 0 }
 valueOf (Is n) = record { number = 0; value = n }
+
+-- a call that writes bytes to a lent buffer, or refuses: its answer in numbers, and the buffer afterwards
+pub record WritesTold (x : Or (List ℕ)) (before : List ℕ) (r : ValueTold) (after : List ℕ) : Type 0 where
+  pub answer : r ≡ valueOf (newLength x)
+  pub buffer : after ≡ overwrite x before
 
 abbrev pub titleToldOf : TitlePart → TitleTold
 titleToldOf (NoPart n) = record { number = n; place = 0; length = 0 }

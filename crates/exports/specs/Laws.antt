@@ -22,13 +22,15 @@ use Rattle.discharge.specs.declared.Discharged.{Discharged}
 use Rattle.discharge.specs.declared.Discharged.the-variants.{Refused as RefusedVolumes, Volumes}
 use Rattle.discharge.specs.Discharge.{EntriesDischarge, Calls}
 use Rattle.discharge.specs.Laws.{refused-above}
+use Rattle.archive_format.specs.declared.Answer.{Answer}
 use Rattle.archive_format.specs.declared.TitlePart.{TitlePart}
 use Rattle.archive_format.specs.declared.TitlePart.the-variants.{Part, Refused as NoPart}
-use Rattle.archive_format.specs.Archive.{segments, bytesAt, titlePartOf, titleOf}
+use Rattle.archive_format.specs.Archive.{segments, bytesAt, titlePartOf, titleOf, Writes}
 use Rattle.exports.specs.declared.WorkTold.{WorkTold}
 use Rattle.exports.specs.declared.VolumesTold.{VolumesTold}
+use Rattle.exports.specs.declared.ValueTold.{ValueTold}
 use Rattle.exports.specs.declared.TitleTold.{TitleTold}
-use Rattle.exports.specs.Exports.{WorksTold, sumOf, toldOf, DischargesTold, volumesOf, titleToldOf}
+use Rattle.exports.specs.Exports.{WorksTold, sumOf, toldOf, DischargesTold, volumesOf, valueOf, WritesTold, titleToldOf}
 
 -- nothing is lost: number and sum say which outcome it was
 pub told-outcome : (n : ℕ) (sum : Float) → outcomeOf (numberOf (outcomeOf n sum)) (sumOf (outcomeOf n sum)) ≡ outcomeOf n sum
@@ -108,3 +110,8 @@ title-told l n = go (titlePartOf segments l n)
     go : (t : TitlePart) → partOf (titleToldOf t) l ≡ bytesAt l t
     go (NoPart m) = refl
     go (Part place size) = refl
+
+-- a call that writes to a lent buffer, in numbers
+pub writes-told : {x : Or (List ℕ)} {before : List ℕ} {a : Answer} {after : List ℕ} {r : ValueTold} → Writes x before a after → r ≡ valueOf a
+    → WritesTold x before r after
+writes-told w e = record { answer = e ∙ ap valueOf (w .answer); buffer = w .buffer }

@@ -4,9 +4,9 @@ ghost use mathlib.Core.Path.{_≡_};
 ghost use lib.ListN.{length};
 ghost use Rattle.propagation.specs.Propagation.{profiles};
 ghost use Rattle.outcome.specs.Outcome.{numberOf};
-ghost use Rattle.archive_format.specs.Archive.{addOf, answerOf, countOf, findOf, newLength, overwrite, placeOf, segments, titlePartOf};
+ghost use Rattle.archive_format.specs.Archive.{addOf, answerOf, countOf, findOf, placeOf, segments, titlePartOf};
 ghost use Rattle.report.specs.Report.{reportOf};
-ghost use Rattle.exports.specs.Exports.{WorksTold, sumOf, toldOf, DischargesTold, volumesOf, valueOf, titleToldOf};
+ghost use Rattle.exports.specs.Exports.{WorksTold, sumOf, toldOf, DischargesTold, volumesOf, valueOf, WritesTold, titleToldOf};
 use archive_format::Answer;
 use archive_format::TitlePart;
 use discharge::Discharged;
@@ -207,8 +207,7 @@ pub extern "C" fn archive_add(
     title: &[u8],
     buffer: &mut [u8],
 ) -> ValueTold
-    ensures { λ r. ⌜ r ≡ valueOf (newLength (addOf segments (now (archive .entry)) (now (bytes .entry)) (now (title .entry)) (length (now (buffer .entry))))) ⌝ }
-    ensures { λ _. ⌜ now (buffer .exit) ≡ overwrite (addOf segments (now (archive .entry)) (now (bytes .entry)) (now (title .entry)) (length (now (buffer .entry)))) (now (buffer .entry)) ⌝ }
+    ensures { λ r. ⌜ WritesTold (addOf segments (now (archive .entry)) (now (bytes .entry)) (now (title .entry)) (length (now (buffer .entry)))) (now (buffer .entry)) r (now (buffer .exit)) ⌝ }
 {
     value(archive_add::add(archive, bytes, title, buffer))
 }
@@ -216,8 +215,7 @@ pub extern "C" fn archive_add(
 // `report::report`: 17 where the buffer is under 262144 bytes.
 #[no_mangle]
 pub extern "C" fn archive_report(archive: &[u8], text: &mut [u8]) -> ValueTold
-    ensures { λ r. ⌜ r ≡ valueOf (newLength (reportOf (now (archive .entry)) (length (now (text .entry))))) ⌝ }
-    ensures { λ _. ⌜ now (text .exit) ≡ overwrite (reportOf (now (archive .entry)) (length (now (text .entry)))) (now (text .entry)) ⌝ }
+    ensures { λ r. ⌜ WritesTold (reportOf (now (archive .entry)) (length (now (text .entry)))) (now (text .entry)) r (now (text .exit)) ⌝ }
 {
     value(report::report(archive, text))
 }

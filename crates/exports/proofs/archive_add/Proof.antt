@@ -1,6 +1,6 @@
-use mathlib.Core.Path.{ap, _∙_}
-use Rattle.exports.specs.Exports.{valueOf}
+-- `archive_add`: the call's answer in numbers, and the buffer as the call left it.
 use borrow.Author.Needs.{needs}
+use Rattle.exports.specs.Laws.{writes-told}
 use Rattle.exports.proofs.archive_add.Statement.{statement}
 use Rattle.exports.proofs.archive_add.Tie as tie
 
@@ -14,7 +14,7 @@ same-length : tie.Need-same-length
 same-length c = search needs
 
 returns : tie.Need-returns
-returns c = (c .value .ensures ∙ ap valueOf (c .before .before .before .add .ensures .0), c .before .before .before .add .ensures .1)
+returns c = writes-told (c .before .before .before .add .ensures) (c .value .ensures)
 
 pub archive-add-spec : {M : Type 1} → statement M
 archive-add-spec = tie.close (tie.spec add-requires value-requires same-length returns)

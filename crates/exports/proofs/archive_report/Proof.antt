@@ -1,7 +1,6 @@
 -- `archive_report`: the call's answer in numbers, and the buffer as the call left it.
-use mathlib.Core.Path.{ap, _∙_}
-use Rattle.exports.specs.Exports.{valueOf}
 use borrow.Author.Needs.{needs}
+use Rattle.exports.specs.Laws.{writes-told}
 use Rattle.exports.proofs.archive_report.Statement.{statement}
 use Rattle.exports.proofs.archive_report.Tie as tie
 
@@ -15,7 +14,7 @@ same-length : tie.Need-same-length
 same-length c = search needs
 
 returns : tie.Need-returns
-returns c = let called = c .before .before .before .report .ensures in (c .value .ensures ∙ ap valueOf (called .answer), called .buffer)
+returns c = writes-told (c .before .before .before .report .ensures) (c .value .ensures)
 
 pub archive-report-spec : {M : Type 1} → statement M
 archive-report-spec = tie.close (tie.spec report-requires value-requires same-length returns)
