@@ -3,14 +3,16 @@ use Prim.Native.Nat.{ℕ, _≤_}
 use native.Mathlib.Omega.{arith}
 use mathlib.Core.Path.{_≡_}
 use mathlib.Core.List.{List}
-use lib.ListN.{length, drop, length-append}
+use lib.ListN.{length, length-append}
 use Rattle.refusal.specs.Refusal.{Or, refused, ok}
+use Rattle.archive_format.specs.declared.Answer.{Answer}
 use Rattle.archive_format.specs.declared.Answer.the-variants.{Is}
-use Rattle.archive_format.specs.Archive.{Writes}
+use Rattle.archive_format.specs.Archive.{newLength, overwrite, Writes}
 
 -- the length answered lies within the buffer
-pub writes-within : (x : Or (List ℕ)) {before after : List ℕ} {n : ℕ} → Writes x before (Is n) after → n ≤ length after
-writes-within (refused m) w = absurd (let z : _≡_ {A = ℕ} 0 1 = cc (w .answer) in omega arith)
-writes-within (ok new) {before} {after} {n} w =
-    let same : length new ≡ n = cc (w .answer) in
-    rw (w .buffer, length-append) (omega arith)
+pub writes-within : {x : Or (List ℕ)} {before : List ℕ} {r : Answer} {after : List ℕ} {n : ℕ} → Writes x before r after → r ≡ Is n → n ≤ length after
+writes-within {x} {before} {r} {after} {n} w e = go x (w .answer) (w .buffer)
+  where
+    go : (y : Or (List ℕ)) → r ≡ newLength y → after ≡ overwrite y before → n ≤ length after
+    go (refused m) a b = absurd (let z : _≡_ {A = ℕ} 0 1 = cc in omega arith)
+    go (ok new) a b = let same : length new ≡ n = cc in rw (b, length-append) (omega arith)

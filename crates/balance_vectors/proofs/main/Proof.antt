@@ -1,6 +1,8 @@
+-- `main`: no more cases differ than were compared. What is left of the cases falls.
 use Prim.Native.Nat.{_≤_, _-_}
 use native.Mathlib.Omega.{arith}
 use mathlib.Core.Logic.{⊎-elim}
+use borrow.Author.Needs.{needs}
 use Rattle.balance_vectors.proofs.main.Statement.{statement}
 use Rattle.balance_vectors.proofs.main.Tie as tie
 
@@ -10,8 +12,11 @@ Inv-loop cases differing₀ i₀ differing i = (differing ≤ i) × (i ≤ cases
 abbrev μ-loop : tie.MeasureT-loop
 μ-loop cases differing₀ i₀ differing i = cases - i
 
+slice-aggregate-read-word : tie.Need-slice-aggregate-read-word Inv-loop μ-loop
+slice-aggregate-read-word c = search needs
+
 read-word-requires : tie.Need-read-word-requires Inv-loop μ-loop
-read-word-requires c κs = tt
+read-word-requires c κs = search needs
 
 loop-holds : tie.Need-loop-holds Inv-loop μ-loop
 loop-holds c = omega arith
@@ -31,6 +36,9 @@ loop-less c = omega arith
 loop-again : tie.Need-loop-again Inv-loop μ-loop
 loop-again c = ⊎-elim (λ w. omega arith) (λ w. omega arith) (c .if1 .came)
 
+slice-aggregate-finish : tie.Need-slice-aggregate-finish Inv-loop μ-loop
+slice-aggregate-finish c = search needs
+
 finish-requires : tie.Need-finish-requires Inv-loop μ-loop
 finish-requires c κs = tt
 
@@ -43,6 +51,7 @@ main-spec =
     (tie.spec
     Inv-loop
     μ-loop
+    slice-aggregate-read-word
     read-word-requires
     loop-holds
     next-differs-requires
@@ -50,5 +59,6 @@ main-spec =
     add-i
     loop-less
     loop-again
+    slice-aggregate-finish
     finish-requires
     returns)
