@@ -1,5 +1,6 @@
 // The README's examples, run: a record is tested, filed with a title, found again, printed and worked.
 use archive_format::Answer;
+use archive_format::TitlePart;
 use discharge::Discharged;
 use libc::STDOUT_FILENO;
 use outcome::Outcome;
@@ -35,14 +36,26 @@ fn tell(label: &[u8], answer: Answer) {
     }
 }
 
+fn tell_part(part: TitlePart) {
+    match part {
+        TitlePart::Part { place, length } => {
+            say(b"title at ", place as u64);
+            say(b"title of ", length as u64);
+        }
+        TitlePart::Refused(n) => say(b"refused ", n as u64),
+    }
+}
+
 fn read(archive: &[u8]) {
     let count = archive_read::count(archive);
     let place = archive_read::place(archive, 0);
     let found = archive_read::find(archive, 1);
+    let part = archive_read::title_part(archive, 1);
     let title = archive_read::title(archive, 1);
     tell(b"records ", count);
     tell(b"place of the first: ", place);
     tell(b"place of record 1: ", found);
+    tell_part(part);
     io::write_all(STDOUT_FILENO, title);
     io::write_all(STDOUT_FILENO, b"\n");
 }
