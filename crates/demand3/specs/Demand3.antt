@@ -10,12 +10,12 @@ use Rattle.segment.specs.declared.Entry.{Entry}
 use Rattle.segment.specs.declared.Segment.{Segment}
 use Rattle.metering.specs.Metering.{discharged}
 use Rattle.entries.specs.Entries.{entryProfile}
-use Rattle.dispersion.specs.Dispersion.{arrivalTimeOf}
+use Rattle.dispersion.specs.Dispersion.{arrivalTimeOf, reported}
 use Rattle.pair_parts.specs.PairParts.{Shared}
 use Rattle.exact.specs.Fraction.{Fraction, Within}
 use Rattle.exact.specs.Exact.{exactPair, exactExit}
 use Rattle.exact_dispersion.specs.ExactDispersion.{exactReported, departed, arrived, Balanced}
-use Rattle.propagation.specs.Propagation.{Profiles, cycles, pairFlow, entryArrivals, pairOf, landsIn}
+use Rattle.propagation.specs.Propagation.{Profiles, cycles, pairFlow, pairOf, landsIn}
 
 -- what an exit exactly has of an entry in discharge step i of the reported cycle
 unfoldable pub exactOf : Segment → Entry → (v i : ℕ) → Fraction
@@ -51,7 +51,9 @@ pub record EntryHolds (s : Segment) (e : Entry) (v : ℕ → ℕ) (all : ℕ) (l
 
 -- an entry whose arrivals no profile keeps: those of dispersion
 abbrev pub EntryMeets : Segment → Entry → (ℕ → ℕ) → Type 0
-EntryMeets s e v = EntryHolds s e v (arrived (s .running) (entryProfile (s .cycle) e) cycles) (entryArrivals s e)
+EntryMeets s e v =
+    let q = entryProfile (s .cycle) e in
+    EntryHolds s e v (arrived (s .running) q cycles) (reported (s .running) q cycles)
 
 -- the whole demand, of a segment with its sixteen pair flows and the three profiles that a call left
 pub record Demand3 (s : Segment) (rows : List (List ℕ)) (p : Profiles) : Type 0 where

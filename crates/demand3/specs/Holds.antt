@@ -92,8 +92,8 @@ module _ (s : Segment) (rows : List (List ℕ)) (p : Profiles) where
   cycle-front k rest =
       take-at _ rest (s .cycle) (reported-length (s .running) (entryProfile (s .cycle) (s .right)) k ∙ entry-length (s .cycle) (s .right))
 
-  last-cycle-is : lastCycleIn s (filledOf s rows p) ≡ entryArrivals s (s .right)
-  unfolding lastCycleIn filledOf entryArrivals
+  last-cycle-is : lastCycleIn s (filledOf s rows p) ≡ reported (s .running) (entryProfile (s .cycle) (s .right)) cycles
+  unfolding lastCycleIn filledOf
   last-cycle-is = cycle-front 1 (drop (s .cycle) (p .second))
 
   arrived-is : arrivedIn s (filledOf s rows p) ≡ arrived (s .running) (entryProfile (s .cycle) (s .right)) cycles

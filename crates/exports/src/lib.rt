@@ -1,5 +1,8 @@
 // The library's calls for programs in C or Rust: a slice passes as a pointer and a length, an answer is a struct of numbers.
 // `number` is the paper's number of a refusal, 0 where the call accepts; what a refusal does not tell is 0.
+// A pointer is to as many numbers as its length says, aligned as their type; with length 0 it may be any, null too.
+// What a call writes overlaps nothing else that it is lent. Contracts go by the names of fields and parameters, so that their order
+// in a caller's declaration is compared by runs alone (reference/linked).
 ghost use mathlib.Core.Path.{_≡_};
 ghost use lib.ListN.{length};
 ghost use Rattle.propagation.specs.Propagation.{profiles};
