@@ -11,7 +11,7 @@ use borrow.Author.Tests.{leb-true, le-leb, lt-leb, lt-ltb, le-ltb, eq-eqb, ne-eq
 use Rattle.refusal.specs.Refusal.{refused, ok, need, both}
 use Rattle.octets.specs.Octets.{word4, bytes2}
 use Rattle.archive_format.specs.declared.Edition.{Edition}
-use Rattle.archive_format.specs.declared.Answer.the-variants.{Is, Refused}
+use Rattle.archive_format.specs.declared.Answer.the-variants.{Value, Refused}
 use Rattle.archive_format.specs.Archive.{recordLimit, titleLimit, Filed, Sized, body, places, encode, titleFits, filedFrom, decode, single, addTo, addOf}
 use Rattle.archive_format.specs.Words.{Bytes}
 use Rattle.archive_format.specs.Decoded.{Shaped, Fit, decoded-is-fit, body-laid, places-laid}
@@ -118,7 +118,7 @@ module _ (e : Edition) (l b ti out : List ℕ) where
             unfolding addOf addTo need
             add-full f = no 18 (rw (h .is, eq-eqb _ _ sized, fits, ← h .last-is, lt-ltb _ _ above, more-length e l h b ti sized, le-leb _ _ room, ← counted e l h, le-ltb _ _ f))
 
-            pub add-done : Bytes l → count < recordLimit → {r : ℕ} {out′ : List ℕ} → Wrote out 0 (grown e l count t b ti) out′ r → Adds e l b ti out (Is r) out′
+            pub add-done : Bytes l → count < recordLimit → {r : ℕ} {out′ : List ℕ} → Wrote out 0 (grown e l count t b ti) out′ r → Adds e l b ti out (Value r) out′
             unfolding addOf addTo need putAt
             add-done hb f {r} {out′} w =
                 let y : addOf e l b ti (length out) ≡ ok (encode e (h .fs ++ single b ti)) =
@@ -126,6 +126,6 @@ module _ (e : Edition) (l b ti out : List ℕ) where
                 let g : grown e l count t b ti ≡ encode e (h .fs ++ single b ti) = grown-is e l h b ti hb in
                 let v : Wrote out 0 (encode e (h .fs ++ single b ti)) out′ r = rw g at w in
                 record {
-                  answer = rw y (ap (λ (z : ℕ). Is z) (v .place ∙ zero-add (length (encode e (h .fs ++ single b ti)))));
+                  answer = rw y (ap (λ (z : ℕ). Value z) (v .place ∙ zero-add (length (encode e (h .fs ++ single b ti)))));
                   buffer = rw y (v .buffer ∙ rw zero-add);
                 }

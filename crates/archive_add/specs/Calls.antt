@@ -9,7 +9,7 @@ use lib.ListN.{length, take}
 use lib.Seq.{append-snoc}
 use Rattle.refusal.specs.Refusal.{Or, refused, ok}
 use Rattle.archive_format.specs.declared.Edition.{Edition}
-use Rattle.archive_format.specs.declared.Answer.the-variants.{Is, Refused}
+use Rattle.archive_format.specs.declared.Answer.the-variants.{Value, Refused}
 use Rattle.archive_format.specs.Archive.{Filed, encode, decode, addOf, countOf, answerOf, overwrite}
 use Rattle.archive_format.specs.Words.{Bytes}
 use Rattle.archive_format.specs.Decoded.{Fit, decoded-is-fit, decoded-is-encoding}
@@ -26,7 +26,7 @@ pub data Calls (e : Edition) (outs : ℕ → List ℕ) : ℕ → List ℕ → Li
   stopped : {i : ℕ} {l : List ℕ} {f : Filed} {fs : List Filed} (m : ℕ) (out′ : List ℕ)
       → Adds e l (f .bytes) (f .title) (outs i) (Refused m) out′ → Calls e outs i l (f ∷ fs) (refused m)
   then : {i : ℕ} {l : List ℕ} {f : Filed} {fs : List Filed} {x : Or (List ℕ)} (n : ℕ) (out′ : List ℕ)
-      → Adds e l (f .bytes) (f .title) (outs i) (Is n) out′ → Calls e outs (suc i) (take n out′) fs x → Calls e outs i l (f ∷ fs) x
+      → Adds e l (f .bytes) (f .title) (outs i) (Value n) out′ → Calls e outs (suc i) (take n out′) fs x → Calls e outs i l (f ∷ fs) x
 
 module _ (e : Edition) (outs : ℕ → List ℕ) where
   -- ---- what was added reads back
@@ -61,7 +61,7 @@ module _ (e : Edition) (outs : ℕ → List ℕ) where
         let snoc : (fs ++ (g ∷ [])) ++ rest ≡ fs ++ (g ∷ rest) = append-snoc fs g rest in
         grown-is (suc j) _ rest x (fs ++ (g ∷ [])) on next (rw snoc f) (rw snoc h) ∙ rw snoc
 
-  pub every-archive : (l : List ℕ) (n : ℕ) (x : Or (List ℕ)) → Bytes l → answerOf (countOf e l) ≡ Is n → ((i : ℕ) → length l ≤ length (outs i))
+  pub every-archive : (l : List ℕ) (n : ℕ) (x : Or (List ℕ)) → Bytes l → answerOf (countOf e l) ≡ Value n → ((i : ℕ) → length l ≤ length (outs i))
       → Calls e outs 0 (encode e []) (recordsFrom e l n 0) x → x ≡ ok l
   every-archive l n x hb a enough c =
       let fs : List Filed = recordsFrom e l n 0 in
@@ -86,5 +86,5 @@ module _ (e : Edition) (outs : ℕ → List ℕ) where
       go (ok new) a on =
           let out′ : List ℕ = overwrite (ok new) (outs i) in
           let rest : Made (suc i) (take (length new) out′) fs = on (take (length new) out′) in
-          let call : Adds e l (f .bytes) (f .title) (outs i) (Is (length new)) out′ = record { answer = sym (rw a); buffer = sym (rw a) } in
+          let call : Adds e l (f .bytes) (f .title) (outs i) (Value (length new)) out′ = record { answer = sym (rw a); buffer = sym (rw a) } in
           record { end = rest .end; calls = then {f = f} (length new) out′ call (rest .calls) }

@@ -1,12 +1,12 @@
 // Adding a record to an archive: the old archive and one record more are written to a second buffer.
 ghost use mathlib.Core.Path.{_≡_};
 ghost use lib.ListN.{length};
-ghost use Rattle.archive_format.specs.Archive.{Sized, titleFits, segments};
+ghost use Rattle.archive_format.specs.Archive.{Sized, titleFits, firstEdition};
 ghost use Rattle.archive_add.specs.Adds.{Adds};
 use archive_format::Answer;
 use archive_format::Edition;
+use archive_format::FIRST_EDITION;
 use archive_format::RECORD_LIMIT;
-use archive_format::SEGMENTS;
 use archive_format::TITLE_LIMIT;
 use archive_open::Opened;
 
@@ -52,14 +52,14 @@ fn add_in(e: Edition, s: &[u8], segment: &[u8], title: &[u8], out: &mut [u8]) ->
                 return Answer::Refused(18);
             }
             let n = archive_write::grow(e, s, count, trailer, segment, title, out);
-            return Answer::Is(n);
+            return Answer::Value(n);
         }
     }
 }
 
 // Writes the archive with one record more to the buffer and returns its length; a refusal writes nothing, and bytes beyond stay.
 pub fn add(archive: &[u8], segment: &[u8], title: &[u8], buffer: &mut [u8]) -> Answer
-    ensures { λ r. ⌜ Adds segments (now (archive .entry)) (now (segment .entry)) (now (title .entry)) (now (buffer .entry)) r (now (buffer .exit)) ⌝ }
+    ensures { λ r. ⌜ Adds firstEdition (now (archive .entry)) (now (segment .entry)) (now (title .entry)) (now (buffer .entry)) r (now (buffer .exit)) ⌝ }
 {
-    add_in(SEGMENTS, archive, segment, title, buffer)
+    add_in(FIRST_EDITION, archive, segment, title, buffer)
 }

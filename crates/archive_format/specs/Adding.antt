@@ -13,7 +13,7 @@ use borrow.Author.Tests.{leb-true, ltb-true, eqb-true, le-leb, lt-ltb, eq-eqb, n
 use Rattle.refusal.specs.Refusal.{Or, refused, ok, need, andThen, need-passed, need-rest, both}
 use Rattle.octets.specs.Octets.{word4}
 use Rattle.archive_format.specs.declared.Edition.{Edition}
-use Rattle.archive_format.specs.Archive.{recordLimit, titleLimit, Filed, numberOf, body, encode, printables, titled, rising, lastNumber, filedAt, decode}
+use Rattle.archive_format.specs.Archive.{recordLimit, titleLimit, Filed, recordNumber, body, encode, printables, titled, rising, lastNumber, filedAt, decode}
 use Rattle.archive_format.specs.Archive.{countOf, placeOf, findOf, titleOf, single, addTo, addOf}
 use Rattle.archive_format.specs.Decoded.{Shaped, Fit, decoded-is-fit}
 use Rattle.archive_format.specs.Encoded.{encoding-reads}
@@ -150,7 +150,7 @@ unfolding titled rising
 next-accepted e fs g gs room f h =
     let s : Shaped (e .size) fs × Shaped (e .size) (g ∷ gs) = shaped-parts (e .size) fs (g ∷ gs) (f .shaped) in
     let titles : (printables (g .title) ≡ true) × (titled gs ≡ true) = both _ _ (fit-titles e fs (g ∷ gs) f) in
-    let rises : (ltb (lastNumber 0 fs) (numberOf g) ≡ true) × (rising (numberOf g) gs ≡ true) = both _ _ (fit-rises e fs (g ∷ gs) f) in
+    let rises : (ltb (lastNumber 0 fs) (recordNumber g) ≡ true) × (rising (recordNumber g) gs ≡ true) = both _ _ (fit-rises e fs (g ∷ gs) f) in
     let w : Accepts e fs (g .bytes) (g .title) = record {
       sized = s .1 .0;
       short = s .1 .1;

@@ -11,7 +11,7 @@ use Rattle.octets.specs.Octets.{word2, word4, bytes2}
 use Rattle.segment.specs.Layout as layout
 use Rattle.archive_format.specs.declared.Edition.{Edition}
 use Rattle.archive_format.specs.declared.Answer.{Answer}
-use Rattle.archive_format.specs.declared.Answer.the-variants.{Is, Refused}
+use Rattle.archive_format.specs.declared.Answer.the-variants.{Value, Refused}
 use Rattle.archive_format.specs.declared.TitlePart.{TitlePart}
 use Rattle.archive_format.specs.declared.TitlePart.the-variants.{Part, Refused as NoPart}
 
@@ -34,8 +34,8 @@ pub record Filed : Type 0 where
   pub bytes : List ℕ
   pub title : List ℕ
 
-abbrev pub numberOf : Filed → ℕ
-numberOf f = word4 (f .bytes) layout.numberAt
+abbrev pub recordNumber : Filed → ℕ
+recordNumber f = word4 (f .bytes) layout.numberAt
 
 -- records one after another: the bytes, the title's length, the title
 unfoldable pub body : List Filed → List ℕ
@@ -71,12 +71,12 @@ titled (f ∷ fs) = printables (f .title) && titled fs
 -- each number above the one before, the first above p
 unfoldable pub rising : ℕ → List Filed → Bool
 rising p [] = true
-rising p (f ∷ fs) = ltb p (numberOf f) && rising (numberOf f) fs
+rising p (f ∷ fs) = ltb p (recordNumber f) && rising (recordNumber f) fs
 
 -- the last number; p where there is none
 unfoldable pub lastNumber : ℕ → List Filed → ℕ
 lastNumber p [] = p
-lastNumber p (f ∷ fs) = lastNumber (numberOf f) fs
+lastNumber p (f ∷ fs) = lastNumber (recordNumber f) fs
 
 -- ---- reading
 
@@ -139,7 +139,7 @@ placeOf e l i = andThen (decode e l) (λ fs. placeIn (e .size) 0 fs i)
 -- the place of the record with a number
 unfoldable pub findIn : ℕ → ℕ → List Filed → ℕ → Or ℕ
 findIn size p [] n = refused 6
-findIn size p (f ∷ fs) n = cond (eqb (numberOf f) n) (ok p) (findIn size (p + size + 1 + length (f .title)) fs n)
+findIn size p (f ∷ fs) n = cond (eqb (recordNumber f) n) (ok p) (findIn size (p + size + 1 + length (f .title)) fs n)
 
 unfoldable pub findOf : Edition → List ℕ → ℕ → Or ℕ
 findOf e l n = andThen (decode e l) (λ fs. findIn (e .size) 0 fs n)
@@ -182,7 +182,7 @@ addOf e l b t room = andThen (decode e l) (λ fs. addTo e b t room fs)
 
 abbrev pub answerOf : Or ℕ → Answer
 answerOf (refused n) = Refused n
-answerOf (ok n) = Is n
+answerOf (ok n) = Value n
 
 -- adding answers the length of what it wrote
 abbrev pub newLength : Or (List ℕ) → Answer
@@ -200,5 +200,5 @@ pub record Writes (x : Or (List ℕ)) (before : List ℕ) (r : Answer) (after : 
 
 -- ---- the first edition: records of 68 bytes, mark "DR"
 
-abbrev pub segments : Edition
-segments = record { size = layout.size; first = 68; second = 82 }
+abbrev pub firstEdition : Edition
+firstEdition = record { size = layout.size; first = 68; second = 82 }

@@ -11,7 +11,7 @@ use Rattle.refusal.specs.Refusal.{Or, refused, ok, andThen, both}
 use Rattle.octets.specs.Octets.{word2}
 use Rattle.archive_format.specs.declared.Edition.{Edition}
 use Rattle.archive_format.specs.declared.TitlePart.the-variants.{Part}
-use Rattle.archive_format.specs.Archive.{Filed, numberOf, body, rising, lastNumber, nextAt, filedAt, filedFrom, runs, countAt, trailerAt, decode}
+use Rattle.archive_format.specs.Archive.{Filed, recordNumber, body, rising, lastNumber, nextAt, filedAt, filedFrom, runs, countAt, trailerAt, decode}
 use Rattle.archive_format.specs.Archive.{placeIn, findIn, findOf, titlePartAt, titlePartOf, titleOf}
 use Rattle.archive_format.specs.Reading.{title-length, Ran, ran, Reads, reads}
 use Rattle.archive_format.specs.Decoded.{Shaped}
@@ -20,7 +20,7 @@ use Rattle.archive_format.specs.Joined.{body-next}
 -- the record with a number, in a list
 unfoldable pub lookup : List Filed → ℕ → Or Filed
 lookup [] n = refused 6
-lookup (f ∷ fs) n = cond (eqb (numberOf f) n) (ok f) (lookup fs n)
+lookup (f ∷ fs) n = cond (eqb (recordNumber f) n) (ok f) (lookup fs n)
 
 -- ---- a search in records that run: both absent, or the place holds the record
 
@@ -35,7 +35,7 @@ search-from size zero l t at q n h r = absent refl refl
 search-from size (suc k) l t at q n h r =
     let m : Ran size k l t at q = ran r in
     let w : nextAt size l at ≤ length l = omega arith in
-    rw (title-length size l at w) (go (eqb (numberOf (filedAt size l at)) n) (m .within) (search-from size k l t (nextAt size l at) (q + 2) n h (m .on)))
+    rw (title-length size l at w) (go (eqb (recordNumber (filedAt size l at)) n) (m .within) (search-from size k l t (nextAt size l at) (q + 2) n h (m .on)))
   where
     go : (b : Bool) → nextAt size l at ≤ t → Search size l t (findIn size (nextAt size l at) (filedFrom size k l (nextAt size l at)) n) (lookup (filedFrom size k l (nextAt size l at)) n)
         → Search size l t (cond b (ok at) (findIn size (nextAt size l at) (filedFrom size k l (nextAt size l at)) n)) (cond b (ok (filedAt size l at)) (lookup (filedFrom size k l (nextAt size l at)) n))
@@ -102,16 +102,16 @@ unfolding titleOf titlePartOf
 title-is e l n p f = rw f
 
 -- a record found has the number looked for
-lookup-number : (fs : List Filed) (n : ℕ) (g : Filed) → lookup fs n ≡ ok g → numberOf g ≡ n
+lookup-number : (fs : List Filed) (n : ℕ) (g : Filed) → lookup fs n ≡ ok g → recordNumber g ≡ n
 unfolding lookup
 lookup-number [] n g h = absurd (let z : _≡_ {A = ℕ} 0 1 = cc in omega arith)
-lookup-number (f ∷ fs) n g h = go (eqb (numberOf f) n) refl h (lookup-number fs n g)
+lookup-number (f ∷ fs) n g h = go (eqb (recordNumber f) n) refl h (lookup-number fs n g)
   where
-    go : (b : Bool) → eqb (numberOf f) n ≡ b → cond b (ok f) (lookup fs n) ≡ ok g → (lookup fs n ≡ ok g → numberOf g ≡ n) → numberOf g ≡ n
+    go : (b : Bool) → eqb (recordNumber f) n ≡ b → cond b (ok f) (lookup fs n) ≡ ok g → (lookup fs n ≡ ok g → recordNumber g ≡ n) → recordNumber g ≡ n
     go true e h ih = let z : f ≡ g = cc in rw (← z) (eqb-true _ _ e)
     go false e h ih = ih h
 
-pub found-number : (e : Edition) (l : List ℕ) (fs : List Filed) (n p : ℕ) → decode e l ≡ ok fs → findOf e l n ≡ ok p → numberOf (filedAt (e .size) l p) ≡ n
+pub found-number : (e : Edition) (l : List ℕ) (fs : List Filed) (n p : ℕ) → decode e l ≡ ok fs → findOf e l n ≡ ok p → recordNumber (filedAt (e .size) l p) ≡ n
 found-number e l fs n p r f = lookup-number fs n _ (find-is e l fs n p r f)
 
 -- ---- a list with more records after it
@@ -119,7 +119,7 @@ found-number e l fs n p r f = lookup-number fs n _ (find-is e l fs n p r f)
 pub lookup-more : (fs gs : List Filed) (n : ℕ) (g : Filed) → lookup fs n ≡ ok g → lookup (fs ++ gs) n ≡ ok g
 unfolding lookup
 lookup-more [] gs n g h = absurd (let z : _≡_ {A = ℕ} 0 1 = cc in omega arith)
-lookup-more (f ∷ fs) gs n g h = go (eqb (numberOf f) n) h (lookup-more fs gs n g)
+lookup-more (f ∷ fs) gs n g h = go (eqb (recordNumber f) n) h (lookup-more fs gs n g)
   where
     go : (b : Bool) → cond b (ok f) (lookup fs n) ≡ ok g → (lookup fs n ≡ ok g → lookup (fs ++ gs) n ≡ ok g) → cond b (ok f) (lookup (fs ++ gs) n) ≡ ok g
     go true h ih = h
@@ -128,7 +128,7 @@ lookup-more (f ∷ fs) gs n g h = go (eqb (numberOf f) n) h (lookup-more fs gs n
 pub lookup-after : (fs gs : List Filed) (n m : ℕ) → lookup fs n ≡ refused m → lookup (fs ++ gs) n ≡ lookup gs n
 unfolding lookup
 lookup-after [] gs n m h = refl
-lookup-after (f ∷ fs) gs n m h = go (eqb (numberOf f) n) h (lookup-after fs gs n m)
+lookup-after (f ∷ fs) gs n m h = go (eqb (recordNumber f) n) h (lookup-after fs gs n m)
   where
     go : (b : Bool) → cond b (ok f) (lookup fs n) ≡ refused m → (lookup fs n ≡ refused m → lookup (fs ++ gs) n ≡ lookup gs n) → cond b (ok f) (lookup (fs ++ gs) n) ≡ lookup gs n
     go true h ih = absurd (let z : _≡_ {A = ℕ} 0 1 = cc in omega arith)
@@ -137,7 +137,7 @@ lookup-after (f ∷ fs) gs n m h = go (eqb (numberOf f) n) h (lookup-after fs gs
 pub find-more : (size at : ℕ) (fs gs : List Filed) (n p : ℕ) → findIn size at fs n ≡ ok p → findIn size at (fs ++ gs) n ≡ ok p
 unfolding findIn
 find-more size at [] gs n p h = absurd (let z : _≡_ {A = ℕ} 0 1 = cc in omega arith)
-find-more size at (f ∷ fs) gs n p h = go (eqb (numberOf f) n) h (find-more size (at + size + 1 + length (f .title)) fs gs n p)
+find-more size at (f ∷ fs) gs n p h = go (eqb (recordNumber f) n) h (find-more size (at + size + 1 + length (f .title)) fs gs n p)
   where
     go : (b : Bool) → cond b (ok at) (findIn size (at + size + 1 + length (f .title)) fs n) ≡ ok p
         → (findIn size (at + size + 1 + length (f .title)) fs n ≡ ok p → findIn size (at + size + 1 + length (f .title)) (fs ++ gs) n ≡ ok p)
@@ -150,7 +150,7 @@ pub find-after : (size at : ℕ) (fs gs : List Filed) (n m : ℕ) → Shaped siz
 unfolding findIn body
 find-after size at [] gs n m s h = let z : at ≡ at + 0 = omega arith in ap (λ (y : ℕ). findIn size y gs n) z
 find-after size at (f ∷ fs) gs n m s h =
-    go (eqb (numberOf f) n) h (find-after size (at + size + 1 + length (f .title)) fs gs n m (s .2)) (body-next size at f fs (s .0))
+    go (eqb (recordNumber f) n) h (find-after size (at + size + 1 + length (f .title)) fs gs n m (s .2)) (body-next size at f fs (s .0))
   where
     go : (b : Bool) → cond b (ok at) (findIn size (at + size + 1 + length (f .title)) fs n) ≡ refused m
         → (findIn size (at + size + 1 + length (f .title)) fs n ≡ refused m → findIn size (at + size + 1 + length (f .title)) (fs ++ gs) n ≡ findIn size (at + size + 1 + length (f .title) + length (body fs)) gs n)
@@ -171,17 +171,17 @@ pub last-above : (p : ℕ) (fs : List Filed) → rising p fs ≡ true → p ≤ 
 unfolding rising lastNumber
 last-above p [] r = omega arith
 last-above p (f ∷ fs) r =
-    let b : (ltb p (numberOf f) ≡ true) × (rising (numberOf f) fs ≡ true) = both _ _ r in
-    omega (arith, ltb-true p (numberOf f) (b .0), last-above (numberOf f) fs (b .1))
+    let b : (ltb p (recordNumber f) ≡ true) × (rising (recordNumber f) fs ≡ true) = both _ _ r in
+    omega (arith, ltb-true p (recordNumber f) (b .0), last-above (recordNumber f) fs (b .1))
 
 -- a number above the last is not in the list
 pub find-above : (size at p : ℕ) (fs : List Filed) (n : ℕ) → rising p fs ≡ true → lastNumber p fs < n → findIn size at fs n ≡ refused 6
 unfolding rising lastNumber findIn
 find-above size at p [] n r h = refl
 find-above size at p (f ∷ fs) n r h =
-    let b : (ltb p (numberOf f) ≡ true) × (rising (numberOf f) fs ≡ true) = both _ _ r in
-    let other : numberOf f ≡ n → ⊥ = λ same. omega (arith, same, last-above (numberOf f) fs (b .1)) in
-    rw (ne-eqb _ _ other) (find-above size (at + size + 1 + length (f .title)) (numberOf f) fs n (b .1) h)
+    let b : (ltb p (recordNumber f) ≡ true) × (rising (recordNumber f) fs ≡ true) = both _ _ r in
+    let other : recordNumber f ≡ n → ⊥ = λ same. omega (arith, same, last-above (recordNumber f) fs (b .1)) in
+    rw (ne-eqb _ _ other) (find-above size (at + size + 1 + length (f .title)) (recordNumber f) fs n (b .1) h)
 
 -- ---- places
 

@@ -8,7 +8,7 @@ use lib.Dec.{ltb}
 use lib.ListN.{length, length-append}
 use Rattle.refusal.specs.Refusal.{both}
 use Rattle.archive_format.specs.declared.Edition.{Edition}
-use Rattle.archive_format.specs.Archive.{Filed, numberOf, body, encode, printables, titled, rising, lastNumber}
+use Rattle.archive_format.specs.Archive.{Filed, recordNumber, body, encode, printables, titled, rising, lastNumber}
 use Rattle.archive_format.specs.Decoded.{Shaped, Fit}
 use Rattle.archive_format.specs.Encoded.{length-encode}
 
@@ -21,7 +21,7 @@ pub rising-append : (p : ℕ) (fs gs : List Filed) → rising p (fs ++ gs) ≡ (
 unfolding rising lastNumber
 rising-append p [] gs = refl
 rising-append p (f ∷ fs) gs =
-    rw (rising-append (numberOf f) fs gs) (sym (and-assoc (ltb p (numberOf f)) (rising (numberOf f) fs) (rising (lastNumber (numberOf f) fs) gs)))
+    rw (rising-append (recordNumber f) fs gs) (sym (and-assoc (ltb p (recordNumber f)) (rising (recordNumber f) fs) (rising (lastNumber (recordNumber f) fs) gs)))
 
 pub shaped-append : (size : ℕ) (fs gs : List Filed) → Shaped size fs → Shaped size gs → Shaped size (fs ++ gs)
 shaped-append size [] gs h k = k

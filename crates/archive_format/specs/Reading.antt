@@ -13,11 +13,11 @@ use borrow.Author.Tests.{leb-true, eqb-true}
 use Rattle.refusal.specs.Refusal.{ok, need-passed, need-rest, both}
 use Rattle.octets.specs.Octets.{word2, word4}
 use Rattle.archive_format.specs.declared.Edition.{Edition}
-use Rattle.archive_format.specs.Archive.{recordLimit, titleLimit, Filed, numberOf, body, titled, rising, nextAt, filedAt, filedFrom, runs, decodeBody, countAt, trailerAt, marked, decode}
+use Rattle.archive_format.specs.Archive.{recordLimit, titleLimit, Filed, recordNumber, body, titled, rising, nextAt, filedAt, filedFrom, runs, decodeBody, countAt, trailerAt, marked, decode}
 
 -- ---- one record
 
-pub number-at : (size : ℕ) (l : List ℕ) (at : ℕ) → 4 ≤ size → numberOf (filedAt size l at) ≡ word4 l at
+pub number-at : (size : ℕ) (l : List ℕ) (at : ℕ) → 4 ≤ size → recordNumber (filedAt size l at) ≡ word4 l at
 unfolding word4
 number-at size l at h =
     let at-0 : getD (take size (drop at l)) 0 0 ≡ getD l (at + 0) 0 = getD-take size (drop at l) 0 0 (omega arith) ∙ getD-drop at l 0 0 in

@@ -15,9 +15,9 @@ use Rattle.octets.specs.Octets.{word4}
 use Rattle.segment.specs.Layout as layout
 use Rattle.archive_format.specs.declared.Edition.{Edition}
 use Rattle.archive_format.specs.declared.Answer.{Answer}
-use Rattle.archive_format.specs.declared.Answer.the-variants.{Is, Refused}
+use Rattle.archive_format.specs.declared.Answer.the-variants.{Value, Refused}
 use Rattle.archive_format.specs.declared.TitlePart.the-variants.{Part}
-use Rattle.archive_format.specs.Archive.{Filed, numberOf, body, rising, lastNumber, filedAt, countAt, trailerAt, decode, placeIn, findIn}
+use Rattle.archive_format.specs.Archive.{Filed, recordNumber, body, rising, lastNumber, filedAt, countAt, trailerAt, decode, placeIn, findIn}
 use Rattle.archive_format.specs.Archive.{countOf, placeOf, findOf, titlePartOf, titleOf, answerOf}
 use Rattle.archive_format.specs.Reading.{Reads, reads}
 use Rattle.archive_format.specs.Decoded.{Shaped, Fit, body-laid, decoded-is-fit}
@@ -62,16 +62,16 @@ module _ (e : Edition) (l : List ℕ) (gs : List Filed) (f : Filed) (hs : List F
   unfolding placeOf
   place-is = rw r (place-after (e .size) 0 gs f hs (shaped .0) ∙ rw zero-add)
 
-  pub found-is : findOf e l (numberOf f) ≡ ok (length (body gs))
+  pub found-is : findOf e l (recordNumber f) ≡ ok (length (body gs))
   unfolding findOf findIn rising
   found-is =
-      let above : ltb (lastNumber 0 gs) (numberOf f) ≡ true = both _ _ (fit-rises e gs (f ∷ hs) fit) .0 in
-      let gone : findIn (e .size) 0 gs (numberOf f) ≡ refused 6 =
-      find-above (e .size) 0 0 gs (numberOf f) (fit-first e gs (f ∷ hs) fit .risen) (ltb-true _ _ above) in
-      let own : numberOf f ≡ numberOf f = refl in
-      rw r (find-after (e .size) 0 gs (f ∷ hs) (numberOf f) 6 (shaped .0) gone ∙ rw (eq-eqb _ _ own, zero-add))
+      let above : ltb (lastNumber 0 gs) (recordNumber f) ≡ true = both _ _ (fit-rises e gs (f ∷ hs) fit) .0 in
+      let gone : findIn (e .size) 0 gs (recordNumber f) ≡ refused 6 =
+      find-above (e .size) 0 0 gs (recordNumber f) (fit-first e gs (f ∷ hs) fit .risen) (ltb-true _ _ above) in
+      let own : recordNumber f ≡ recordNumber f = refl in
+      rw r (find-after (e .size) 0 gs (f ∷ hs) (recordNumber f) 6 (shaped .0) gone ∙ rw (eq-eqb _ _ own, zero-add))
 
-  pub part-is : titlePartOf e l (numberOf f) ≡ Part (length (body gs) + e .size + 1) (length (f .title))
+  pub part-is : titlePartOf e l (recordNumber f) ≡ Part (length (body gs) + e .size + 1) (length (f .title))
   unfolding titlePartOf
   part-is = rw (found-is, laid-length (e .size) f l (length (body gs)) rest (shaped .1 .0) laid)
 
@@ -80,15 +80,15 @@ module _ (e : Edition) (l : List ℕ) (gs : List Filed) (f : Filed) (hs : List F
 -- the calls on the record with an index
 pub record Stands (e : Edition) (l : List ℕ) (i : ℕ) (f : Filed) : Type 0 where
   pub place : ℕ
-  pub placed : answerOf (placeOf e l i) ≡ Is place
+  pub placed : answerOf (placeOf e l i) ≡ Value place
   pub bytes : take (e .size) (drop place l) ≡ f .bytes
-  pub found : answerOf (findOf e l (numberOf f)) ≡ Is place
-  pub part : titlePartOf e l (numberOf f) ≡ Part (place + e .size + 1) (length (f .title))
-  pub title : titleOf e l (numberOf f) ≡ f .title
+  pub found : answerOf (findOf e l (recordNumber f)) ≡ Value place
+  pub part : titlePartOf e l (recordNumber f) ≡ Part (place + e .size + 1) (length (f .title))
+  pub title : titleOf e l (recordNumber f) ≡ f .title
 
 pub record ReadsAs (e : Edition) (l : List ℕ) (fs : List Filed) : Type 0 where
   pub is : decode e l ≡ ok fs
-  pub count : answerOf (countOf e l) ≡ Is (length fs)
+  pub count : answerOf (countOf e l) ≡ Value (length fs)
   pub each : (gs : List Filed) (f : Filed) (hs : List Filed) → fs ≡ gs ++ (f ∷ hs) → Stands e l (length gs) f
   -- no other index and no other number
   pub beyond : (i : ℕ) → length fs ≤ i → answerOf (placeOf e l i) ≡ Refused 6
@@ -96,7 +96,7 @@ pub record ReadsAs (e : Edition) (l : List ℕ) (fs : List Filed) : Type 0 where
 
 stands : (e : Edition) (l : List ℕ) (gs : List Filed) (f : Filed) (hs : List Filed) → decode e l ≡ ok (gs ++ (f ∷ hs)) → Stands e l (length gs) f
 stands e l gs f hs r =
-    let found : findOf e l (numberOf f) ≡ ok (length (body gs)) = found-is e l gs f hs r in
+    let found : findOf e l (recordNumber f) ≡ ok (length (body gs)) = found-is e l gs f hs r in
     let same : filedAt (e .size) l (length (body gs)) ≡ f = record-is e l gs f hs r in
     record {
       place = length (body gs);
@@ -104,7 +104,7 @@ stands e l gs f hs r =
       bytes = ap (λ (z : Filed). z .bytes) same;
       found = ap answerOf found;
       part = part-is e l gs f hs r;
-      title = title-is e l (numberOf f) (length (body gs)) found ∙ ap (λ (z : Filed). z .title) same;
+      title = title-is e l (recordNumber f) (length (body gs)) found ∙ ap (λ (z : Filed). z .title) same;
     }
 
 pub reads-as : (e : Edition) (l : List ℕ) (fs : List Filed) → decode e l ≡ ok fs → ReadsAs e l fs
@@ -123,7 +123,7 @@ reads-as e l fs r =
 -- the record at the place that was answered, with the title of its number
 abbrev pub recordBy : Edition → List ℕ → Answer → Filed
 recordBy e l (Refused n) = record { bytes = []; title = [] }
-recordBy e l (Is p) = record { bytes = take (e .size) (drop p l); title = titleOf e l (word4 (take (e .size) (drop p l)) layout.numberAt) }
+recordBy e l (Value p) = record { bytes = take (e .size) (drop p l); title = titleOf e l (word4 (take (e .size) (drop p l)) layout.numberAt) }
 
 -- so many records by their places, from an index on
 unfoldable pub recordsFrom : Edition → List ℕ → ℕ → ℕ → List Filed
@@ -141,10 +141,10 @@ records-from e l gs (f ∷ fs) r =
     (ap (λ (zs : List Filed). f ∷ zs) (ap (λ (i : ℕ). recordsFrom e l (length fs) i) more ∙ records-from e l (gs ++ (f ∷ [])) fs on))
 
 -- where count answers, they are the archive's
-pub records-are : (e : Edition) (l : List ℕ) (n : ℕ) → answerOf (countOf e l) ≡ Is n → decode e l ≡ ok (recordsFrom e l n 0)
+pub records-are : (e : Edition) (l : List ℕ) (n : ℕ) → answerOf (countOf e l) ≡ Value n → decode e l ≡ ok (recordsFrom e l n 0)
 unfolding countOf
 records-are e l n = go (decode e l) refl
   where
-    go : (x : Or (List Filed)) → decode e l ≡ x → answerOf (andThen x (λ fs. ok (length fs))) ≡ Is n → decode e l ≡ ok (recordsFrom e l n 0)
+    go : (x : Or (List Filed)) → decode e l ≡ x → answerOf (andThen x (λ fs. ok (length fs))) ≡ Value n → decode e l ≡ ok (recordsFrom e l n 0)
     go (refused m) r a = absurd (let z : _≡_ {A = ℕ} 0 1 = cc in omega arith)
     go (ok fs) r a = let z : length fs ≡ n = cc in r ∙ ap ok (sym (records-from e l [] fs r) ∙ rw z)

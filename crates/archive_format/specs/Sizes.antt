@@ -11,7 +11,7 @@ use Rattle.refusal.specs.Refusal.{ok}
 use Rattle.octets.specs.Octets.{word4, bytes2}
 use Rattle.segment.specs.Layout as layout
 use Rattle.archive_format.specs.declared.Edition.{Edition}
-use Rattle.archive_format.specs.Archive.{recordLimit, titleLimit, Filed, body, encode, printables, titled, rising, decode, placeIn, placeOf, segments}
+use Rattle.archive_format.specs.Archive.{recordLimit, titleLimit, Filed, body, encode, printables, titled, rising, decode, placeIn, placeOf, firstEdition}
 use Rattle.archive_format.specs.Words.{Bytes}
 use Rattle.archive_format.specs.Decoded.{Shaped, Fit, decoded-is-fit, decoded-is-encoding}
 use Rattle.archive_format.specs.Encoded.{length-encode, encoding-reads}
@@ -40,22 +40,22 @@ pub record Small (l : List ℕ) (fs : List Filed) : Type 0 where
   pub whole : length l ≤ 56838
   pub count : length fs ≤ recordLimit
   pub trailer : length (body fs) ≤ 55808
-  pub place : (i p : ℕ) → placeOf segments l i ≡ ok p → p ≤ 55808
+  pub place : (i p : ℕ) → placeOf firstEdition l i ≡ ok p → p ≤ 55808
 
-pub encoding-is-small : (fs : List Filed) → Fit segments fs → Small (encode segments fs) fs
+pub encoding-is-small : (fs : List Filed) → Fit firstEdition fs → Small (encode firstEdition fs) fs
 unfolding placeOf
 encoding-is-small fs f =
     let k : length fs ≤ recordLimit = f .many in
     let b : length (body fs) ≤ length fs * 109 = body-bound layout.size fs (f .shaped) in
     record {
-      whole = length-bound segments fs f;
+      whole = length-bound firstEdition fs f;
       count = k;
       trailer = omega arith;
-      place = λ i p h. omega (arith, place-bound layout.size 0 fs i p (f .shaped) (rw (encoding-reads segments fs f) at h));
+      place = λ i p h. omega (arith, place-bound layout.size 0 fs i p (f .shaped) (rw (encoding-reads firstEdition fs f) at h));
     }
 
-pub archive-is-small : (l : List ℕ) (fs : List Filed) → Bytes l → decode segments l ≡ ok fs → Small l fs
-archive-is-small l fs hb r = rw (decoded-is-encoding segments l fs hb r) (encoding-is-small fs (decoded-is-fit segments l fs r))
+pub archive-is-small : (l : List ℕ) (fs : List Filed) → Bytes l → decode firstEdition l ≡ ok fs → Small l fs
+archive-is-small l fs hb r = rw (decoded-is-encoding firstEdition l fs hb r) (encoding-is-small fs (decoded-is-fit firstEdition l fs r))
 
 -- ---- the bound is met: 512 records with titles of 40 spaces
 
@@ -94,8 +94,8 @@ unfolding numbered
 numbered-length zero n = refl
 numbered-length (suc k) n = ap suc (numbered-length k (n + 1))
 
-pub longest-fit : Fit segments (numbered recordLimit 0)
+pub longest-fit : Fit firstEdition (numbered recordLimit 0)
 longest-fit = record { shaped = numbered-shaped recordLimit 0; titles = numbered-titled recordLimit 0; risen = numbered-rising recordLimit 0; many = omega (arith, numbered-length recordLimit 0) }
 
-pub longest-length : length (encode segments (numbered recordLimit 0)) ≡ 56838
-longest-length = omega (arith, length-encode segments (numbered recordLimit 0), numbered-body recordLimit 0, numbered-length recordLimit 0)
+pub longest-length : length (encode firstEdition (numbered recordLimit 0)) ≡ 56838
+longest-length = omega (arith, length-encode firstEdition (numbered recordLimit 0), numbered-body recordLimit 0, numbered-length recordLimit 0)

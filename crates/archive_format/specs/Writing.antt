@@ -6,11 +6,11 @@ use mathlib.Core.List.{List}
 use lib.ListN.{length, length-append}
 use Rattle.refusal.specs.Refusal.{Or, refused, ok}
 use Rattle.archive_format.specs.declared.Answer.{Answer}
-use Rattle.archive_format.specs.declared.Answer.the-variants.{Is}
+use Rattle.archive_format.specs.declared.Answer.the-variants.{Value}
 use Rattle.archive_format.specs.Archive.{newLength, overwrite, Writes}
 
 -- the length answered lies within the buffer
-pub writes-within : {x : Or (List ℕ)} {before : List ℕ} {r : Answer} {after : List ℕ} {n : ℕ} → Writes x before r after → r ≡ Is n → n ≤ length after
+pub writes-within : {x : Or (List ℕ)} {before : List ℕ} {r : Answer} {after : List ℕ} {n : ℕ} → Writes x before r after → r ≡ Value n → n ≤ length after
 writes-within {x} {before} {r} {after} {n} w e = go x (w .answer) (w .buffer)
   where
     go : (y : Or (List ℕ)) → r ≡ newLength y → after ≡ overwrite y before → n ≤ length after

@@ -1,7 +1,7 @@
 // Archives of segment records (paper 01: drawers of cards). What they mean is in specs/.
 ghost use mathlib.Core.Path.{_≡_};
 ghost use mathlib.Core.List.{[]};
-ghost use Rattle.archive_format.specs.Archive.{encode, segments};
+ghost use Rattle.archive_format.specs.Archive.{encode, firstEdition};
 
 // The most records that an archive holds.
 pub const RECORD_LIMIT: usize = 512;
@@ -17,7 +17,7 @@ pub struct Edition {
 }
 
 // The first edition: records of 68 bytes, mark "DR".
-pub const SEGMENTS: Edition = Edition {
+pub const FIRST_EDITION: Edition = Edition {
     size: segment::SIZE,
     first: 68,
     second: 82,
@@ -26,7 +26,7 @@ pub const SEGMENTS: Edition = Edition {
 // A place, a count or a length; or the paper's number of a refusal.
 pub enum Answer {
     Refused(u32),
-    Is(usize),
+    Value(usize),
 }
 
 // Where a title stands in its archive, and its length; or the paper's number of a refusal.
@@ -37,7 +37,7 @@ pub enum TitlePart {
 
 // The archive with no records.
 pub fn empty() -> [u8; 6]
-    ensures { λ r. ⌜ r ≡ encode segments [] ⌝ }
+    ensures { λ r. ⌜ r ≡ encode firstEdition [] ⌝ }
 {
-    [0, 0, 0, 0, SEGMENTS.first, SEGMENTS.second]
+    [0, 0, 0, 0, FIRST_EDITION.first, FIRST_EDITION.second]
 }

@@ -8,7 +8,7 @@ use Rattle.refusal.specs.Refusal.{Or, refused, ok}
 use Rattle.octets.specs.Octets.{word2}
 use Rattle.archive_format.specs.declared.Edition.{Edition}
 use Rattle.archive_format.specs.declared.Answer.{Answer}
-use Rattle.archive_format.specs.declared.Answer.the-variants.{Is, Refused}
+use Rattle.archive_format.specs.declared.Answer.the-variants.{Value, Refused}
 use Rattle.archive_format.specs.declared.TitlePart.the-variants.{Part, Refused as NoPart}
 use Rattle.archive_format.specs.Archive.{filedFrom, nextAt, decode, answerOf, countOf, placeOf, findIn, findOf, titlePartOf, titleOf}
 use Rattle.archive_format.specs.Reading.{filed-length}
@@ -30,11 +30,11 @@ module _ (e : Edition) (l : List ℕ) where
   find-invalid n i o = sym (rw (invalid e l n o))
 
   module _ {count t last : ℕ} (h : Held e l count t last) where
-    pub count-valid : Is count ≡ answerOf (countOf e l)
+    pub count-valid : Value count ≡ answerOf (countOf e l)
     unfolding countOf
     count-valid = sym (rw (held-filed e l h, filed-length (e .size) count l 0))
 
-    pub place-valid : {i p : ℕ} → i < count → p ≡ word2 l (t + 2 * i) → Is p ≡ answerOf (placeOf e l i)
+    pub place-valid : {i p : ℕ} → i < count → p ≡ word2 l (t + 2 * i) → Value p ≡ answerOf (placeOf e l i)
     unfolding placeOf
     place-valid {i} {p} s w = sym (rw (held-filed e l h, place-at (e .size) count l t 0 t i (omega (arith, held-fits e l h)) (held-run e l h) s, w))
 
@@ -48,7 +48,7 @@ module _ (e : Edition) (l : List ℕ) where
 
 -- ---- a title's part, by what finding answered
 
-answer-ok : (x : Or ℕ) (p : ℕ) → answerOf x ≡ Is p → x ≡ ok p
+answer-ok : (x : Or ℕ) (p : ℕ) → answerOf x ≡ Value p → x ≡ ok p
 answer-ok (refused n) p a = absurd (let z : _≡_ {A = ℕ} 0 1 = cc in omega arith)
 answer-ok (ok m) p a = let z : m ≡ p = cc in rw z
 
@@ -57,10 +57,10 @@ answer-refused (refused n) p a = let z : n ≡ p = cc in rw z
 answer-refused (ok m) p a = absurd (let z : _≡_ {A = ℕ} 0 1 = cc in omega arith)
 
 module _ (e : Edition) (l : List ℕ) (n p : ℕ) where
-  pub found-within : answerOf (findOf e l n) ≡ Is p → nextAt (e .size) l p ≤ length l
+  pub found-within : answerOf (findOf e l n) ≡ Value p → nextAt (e .size) l p ≤ length l
   found-within a = find-within e l n p (answer-ok (findOf e l n) p a)
 
-  pub part-found : (m : ℕ) → answerOf (findOf e l n) ≡ Is p → m ≡ getD l (p + e .size) 0 → Part (p + e .size + 1) m ≡ titlePartOf e l n
+  pub part-found : (m : ℕ) → answerOf (findOf e l n) ≡ Value p → m ≡ getD l (p + e .size) 0 → Part (p + e .size + 1) m ≡ titlePartOf e l n
   unfolding titlePartOf
   part-found m a em = sym (rw (answer-ok (findOf e l n) p a, em))
 

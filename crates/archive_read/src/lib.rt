@@ -4,10 +4,10 @@ ghost use mathlib.Core.Path.{_≡_};
 ghost use mathlib.Core.Bool.{true};
 ghost use Prim.Native.Nat.{_≤_};
 ghost use lib.ListN.{length};
-ghost use Rattle.archive_format.specs.Archive.{Sized, filedFrom, runs, findIn, answerOf, countOf, placeOf, findOf, titlePartOf, titleOf, segments};
+ghost use Rattle.archive_format.specs.Archive.{Sized, filedFrom, runs, findIn, answerOf, countOf, placeOf, findOf, titlePartOf, titleOf, firstEdition};
 use archive_format::Answer;
 use archive_format::Edition;
-use archive_format::SEGMENTS;
+use archive_format::FIRST_EDITION;
 use archive_format::TitlePart;
 use archive_open::Opened;
 
@@ -20,7 +20,7 @@ fn seek(size: usize, s: &[u8], count: usize, t: usize, number: u32) -> Answer
     let mut at = 0;
     while i < count {
         if octets::word4_at(s, at) == number {
-            return Answer::Is(at);
+            return Answer::Value(at);
         }
         at = at + size + 1 + archive_open::long(s[at + size]);
         i += 1;
@@ -39,7 +39,7 @@ fn count_in(e: Edition, s: &[u8]) -> Answer
             count,
             trailer: _,
             last: _,
-        } => Answer::Is(count),
+        } => Answer::Value(count),
     }
 }
 
@@ -56,7 +56,7 @@ fn place_in(e: Edition, s: &[u8], i: usize) -> Answer
             last: _,
         } => {
             if i < count {
-                Answer::Is(archive_open::place_at(s, trailer + 2 * i))
+                Answer::Value(archive_open::place_at(s, trailer + 2 * i))
             } else {
                 Answer::Refused(6)
             }
@@ -87,7 +87,7 @@ fn title_part_in(e: Edition, s: &[u8], number: u32) -> TitlePart
     let f = find_in(e, s, number);
     match f {
         Answer::Refused(n) => TitlePart::Refused(n),
-        Answer::Is(at) => TitlePart::Part {
+        Answer::Value(at) => TitlePart::Part {
             place: at + size + 1,
             length: archive_open::long(s[at + size]),
         },
@@ -96,35 +96,35 @@ fn title_part_in(e: Edition, s: &[u8], number: u32) -> TitlePart
 
 // How many records an archive holds.
 pub fn count(archive: &[u8]) -> Answer
-    ensures { λ r. ⌜ r ≡ answerOf (countOf segments (now (archive .entry))) ⌝ }
+    ensures { λ r. ⌜ r ≡ answerOf (countOf firstEdition (now (archive .entry))) ⌝ }
 {
-    count_in(SEGMENTS, archive)
+    count_in(FIRST_EDITION, archive)
 }
 
 // The place of the record with an index from 0; 6 where there is none.
 pub fn place(archive: &[u8], i: usize) -> Answer
-    ensures { λ r. ⌜ r ≡ answerOf (placeOf segments (now (archive .entry)) i) ⌝ }
+    ensures { λ r. ⌜ r ≡ answerOf (placeOf firstEdition (now (archive .entry)) i) ⌝ }
 {
-    place_in(SEGMENTS, archive, i)
+    place_in(FIRST_EDITION, archive, i)
 }
 
 // The place of the record with a number; 6 where there is none.
 pub fn find(archive: &[u8], number: u32) -> Answer
-    ensures { λ r. ⌜ r ≡ answerOf (findOf segments (now (archive .entry)) number) ⌝ }
+    ensures { λ r. ⌜ r ≡ answerOf (findOf firstEdition (now (archive .entry)) number) ⌝ }
 {
-    find_in(SEGMENTS, archive, number)
+    find_in(FIRST_EDITION, archive, number)
 }
 
 // Where the title of the record with a number stands in the archive, and its length; finding's number where it refuses.
 pub fn title_part(archive: &[u8], number: u32) -> TitlePart
-    ensures { λ r. ⌜ r ≡ titlePartOf segments (now (archive .entry)) number ⌝ }
+    ensures { λ r. ⌜ r ≡ titlePartOf firstEdition (now (archive .entry)) number ⌝ }
 {
-    title_part_in(SEGMENTS, archive, number)
+    title_part_in(FIRST_EDITION, archive, number)
 }
 
 // The title of the record with a number: the part of the archive that `title_part` answers, empty where it refuses.
 pub fn title<'a>(archive: &'a [u8], number: u32) -> &'a [u8]
-    ensures { λ r. ⌜ now r ≡ titleOf segments (now (archive .entry)) number ⌝ }
+    ensures { λ r. ⌜ now r ≡ titleOf firstEdition (now (archive .entry)) number ⌝ }
 {
     let part = title_part(archive, number);
     match part {

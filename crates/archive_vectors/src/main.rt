@@ -36,7 +36,7 @@ fn part<'a>(s: &'a [u8], at: usize, n: usize) -> &'a [u8] {
 fn answers(a: Answer, number: u32, value: usize) -> bool {
     match a {
         Answer::Refused(n) => (n == number) & (value == 0),
-        Answer::Is(v) => (number == 0) & (v == value),
+        Answer::Value(v) => (number == 0) & (v == value),
     }
 }
 

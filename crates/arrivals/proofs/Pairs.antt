@@ -12,7 +12,7 @@ use Rattle.signal.specs.Landing.{added, Untouched, untouched-on}
 use Rattle.pair_parts.specs.PairParts.{partOf, restOf, parts, pairArrivals}
 use Rattle.pair_parts.specs.Laws.{part-le, rest-lt, pair-parts, pair-without}
 use Rattle.arrivals.specs.declared.Part.{Part}
-use Rattle.arrivals.specs.Arrivals.{PairRanges}
+use Rattle.arrivals.specs.Arrivals.{PairFits}
 
 -- i arrivals added, the rest to come; the next one lands in step `lands`
 pub record Adding (arrived : List ℕ) (v w t : ℕ) (run₀ run : List ℕ) (lands carry i : ℕ) : Type 0 where
@@ -29,7 +29,7 @@ adding-start arrived v w t run h share e =
     record { within = omega arith; carried = omega arith; long = refl; place = e; clear = record { same = λ m _ _. refl }; same = refl }
 
 module _ {arrived : List ℕ} {v w t : ℕ} {run₀ run : List ℕ} {lands carry i : ℕ} (r : Adding arrived v w t run₀ run lands carry i)
-    (a : PairRanges v w t arrived run₀) where
+    (a : PairFits v w t arrived run₀) where
   pub lands-pos : 0 < lands
   lands-pos = rw (r .place) (turn-pos (length run₀) (i + 1 + t))
 

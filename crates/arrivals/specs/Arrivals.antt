@@ -3,6 +3,7 @@ use Prim.Native.Nat.{ℕ, _*_, _≤_, _<_}
 use mathlib.Core.Path.{_≡_}
 use mathlib.Core.List.{List, [], _∷_, _++_}
 use lib.ListN.{length, take, drop, getD, replicate}
+use Rattle.limits.specs.Limits.{mostCycle, stepBound}
 use Rattle.lists.specs.Lists.{tab}
 use Rattle.signal.specs.Landing.{added}
 use Rattle.pair_parts.specs.PairParts.{pairArrivals}
@@ -32,21 +33,21 @@ abbrev pub runLimit : ℕ
 runLimit = 4000000000
 
 -- ranges in which the sums of one run fit
-pub record PairRanges (v w t : ℕ) (arrived run : List ℕ) : Type 0 where
+pub record PairFits (v w t : ℕ) (arrived run : List ℕ) : Type 0 where
   pub long : length arrived ≡ length run
   pub some : 0 < length run
-  pub cycle : length run ≤ 240
+  pub cycle : length run ≤ mostCycle
   pub share : v ≤ w
-  pub time : t < 1000
+  pub time : t < stepBound
   pub arrivals : (i : ℕ) → getD arrived i 0 ≤ arrivalLimit
   pub small : (k : ℕ) → getD run k 0 ≤ runLimit
 
 -- and of the four
-pub record EntryRanges (w t : ℕ) (row arrived out : List ℕ) : Type 0 where
+pub record EntryFits (w t : ℕ) (row arrived out : List ℕ) : Type 0 where
   pub some : 0 < length arrived
-  pub cycle : length arrived ≤ 240
+  pub cycle : length arrived ≤ mostCycle
   pub room : 4 * length arrived ≤ length out
   pub shares : (j : ℕ) → getD row j 0 ≤ w
-  pub time : t < 1000
+  pub time : t < stepBound
   pub arrivals : (i : ℕ) → getD arrived i 0 ≤ arrivalLimit
   pub small : (k : ℕ) → k < 4 * length arrived → getD out k 0 ≤ runLimit

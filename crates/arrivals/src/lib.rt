@@ -5,7 +5,7 @@ ghost use Prim.Native.Nat.{_+_, _-_, _*_, _≤_, _<_};
 ghost use lib.ListN.{length};
 ghost use Rattle.signal.specs.Landing.{added};
 ghost use Rattle.pair_parts.specs.PairParts.{partOf, restOf, pairArrivals};
-ghost use Rattle.arrivals.specs.Arrivals.{PairRanges, EntryRanges, begun, entryAdded};
+ghost use Rattle.arrivals.specs.Arrivals.{PairFits, EntryFits, begun, entryAdded};
 use signal::Step;
 
 // A pair's part of one arrival, and what is carried to the next.
@@ -28,7 +28,7 @@ fn part_of(arrival: u32, v: u32, w: u32, carry: u32) -> Part
 
 // One run: the parts of an entry's arrivals that go to its exit are added where their steps land, remainder carried from step to step.
 fn add_pair(arrived: &[u32], v: u32, w: u32, t: u32, run: &mut [u32])
-    requires { ⌜ PairRanges v w t (now arrived) (now run) ⌝ }
+    requires { ⌜ PairFits v w t (now arrived) (now run) ⌝ }
     ensures { λ _. ⌜ now (run .exit) ≡ added (length (now (run .entry))) t 1 (pairArrivals v w (now (arrived .entry))) (now (run .entry)) ⌝ }
 {
     if v == 0 {
@@ -50,7 +50,7 @@ fn add_pair(arrived: &[u32], v: u32, w: u32, t: u32, run: &mut [u32])
 
 // One entry: to each of the four runs its pair's arrivals are added.
 pub fn add_entry(arrived: &[u32], row: [u32; 4], w: u32, t: u32, out: &mut [u32])
-    requires { ⌜ EntryRanges w t row (now arrived) (now out) ⌝ }
+    requires { ⌜ EntryFits w t row (now arrived) (now out) ⌝ }
     ensures { λ _. ⌜ now (out .exit) ≡ entryAdded (length (now (arrived .entry))) t w (now (arrived .entry)) row (now (out .entry)) ⌝ }
 {
     let c = arrived.len();

@@ -5,8 +5,8 @@ use mathlib.Core.Path.{_≡_, ap, _∙_}
 use mathlib.Core.Bool.{true, false}
 use native.Mathlib.Omega.{arith}
 use lib.Ieee.{lt}
-use Rattle.flows.specs.declared.Flows.{Flows}
-use Rattle.flows.specs.declared.FlowTable.{FlowTable}
+use Rattle.balance_flows.specs.declared.Flows.{Flows}
+use Rattle.balance_flows.specs.declared.FlowTable.{FlowTable}
 use Rattle.balance_round.specs.declared.Round.{Round}
 use Rattle.balance_round.specs.Round.{roundOf, stops}
 use Rattle.balance.specs.Settling.{threshold, cellsOf, unsettled, closed, Running, after, next, rounds, report}

@@ -8,8 +8,8 @@ use native.Mathlib.Numerals.{add-one}
 use native.Mathlib.Omega.{arith}
 use borrow.Author.Count.{below-more}
 use lib.Ieee.{lt}
-use Rattle.flows.specs.declared.Flows.{Flows}
-use Rattle.flows.specs.declared.FlowTable.{FlowTable}
+use Rattle.balance_flows.specs.declared.Flows.{Flows}
+use Rattle.balance_flows.specs.declared.FlowTable.{FlowTable}
 use Rattle.balance_round.specs.declared.Round.{Round}
 use Rattle.balance_round.specs.Round.{roundOf, stops}
 use Rattle.balance.specs.declared.Balance.{Balance}

@@ -6,15 +6,15 @@ use mathlib.Core.Path.{_≡_, refl}
 use lib.Ieee.{Float, binary64, ofBits, round, lt}
 use Rattle.movements.specs.declared.Counts.{Counts}
 use Rattle.movements.specs.declared.Seeds.{Seeds}
-use Rattle.flows.specs.declared.Flows.{Flows}
-use Rattle.flows.specs.declared.FlowTable.{FlowTable}
-use Rattle.flows.specs.Flows.{zero64, times, flowsOf, noFlows, noTable, tableFinite}
+use Rattle.balance_flows.specs.declared.Flows.{Flows}
+use Rattle.balance_flows.specs.declared.FlowTable.{FlowTable}
+use Rattle.balance_flows.specs.Flows.{zero64, times, flowsOf, noFlows, noTable, tableFinite}
 use Rattle.balance_round.specs.declared.Round.{Round}
 use Rattle.balance_round.specs.Round.{roundOf, stops}
 use Rattle.balance.specs.declared.Settling.{Settling}
 use Rattle.balance.specs.declared.Settling.the-variants.{Settled, Unsettled}
 use Rattle.balance.specs.declared.Balance.{Balance}
-use Rattle.volumes.specs.Volumes.{dischargeFloats, exitFloats, proportions, destinationVolumes}
+use Rattle.balance_volumes.specs.Volumes.{dischargeFloats, exitFloats, proportions, destinationVolumes}
 
 -- at most so many rounds
 abbrev pub roundLimit : ℕ

@@ -1,11 +1,11 @@
 // Balancing of discharge and exit volumes over the sixteen pairs of an entry and an exit:
 // rounds of equations 30-4 to 30-7 until the adjusted origins settle.
 ghost use mathlib.Core.Path.{_≡_};
-ghost use Rattle.flows.specs.Flows.{noFlows};
+ghost use Rattle.balance_flows.specs.Flows.{noFlows};
 ghost use Rattle.balance.specs.Settling.{roundLimit, cell, cellRow, cellsOf, unsettled, closed, start, settle, balanced};
+use balance_flows::FlowTable;
+use balance_flows::Flows;
 use balance_round::Round;
-use flows::FlowTable;
-use flows::Flows;
 use movements::Counts;
 use movements::Seeds;
 
@@ -86,7 +86,7 @@ fn unsettled(sum: f64, rounds: u32) -> Balance
 fn closed(cells: FlowTable, sum: f64, rounds: u32) -> Balance
     ensures { λ r. ⌜ r ≡ closed cells sum rounds ⌝ }
 {
-    if flows::table_finite(cells) {
+    if balance_flows::table_finite(cells) {
         return Balance {
             settling: Settling::Settled(sum),
             rounds,
@@ -137,7 +137,7 @@ fn settle(o: Flows, d: Flows, p: FlowTable) -> Balance
 pub fn balanced(o: Counts, exits: Counts, seeds: Seeds) -> Balance
     ensures { λ r. ⌜ r ≡ balanced o exits seeds ⌝ }
 {
-    let origins = volumes::discharge_floats(o);
-    let d = volumes::destination_volumes(origins, volumes::exit_floats(exits));
-    settle(origins, d, volumes::proportions(seeds))
+    let origins = balance_volumes::discharge_floats(o);
+    let d = balance_volumes::destination_volumes(origins, balance_volumes::exit_floats(exits));
+    settle(origins, d, balance_volumes::proportions(seeds))
 }

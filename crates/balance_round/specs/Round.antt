@@ -1,23 +1,23 @@
 -- One round of balancing: item 3 of "Metering and shares", equations 30-4 to 30-7.
 use mathlib.Core.Bool.{Bool, cond, _&&_, _||_, not}
 use lib.Ieee.{Float, binary64, sub, lt, eq}
-use Rattle.flows.specs.declared.Flows.{Flows}
-use Rattle.flows.specs.declared.FlowTable.{FlowTable}
-use Rattle.flows.specs.Flows.{zero64, finite, allFinite, flowsOf, total, weighted, quotients}
+use Rattle.balance_flows.specs.declared.Flows.{Flows}
+use Rattle.balance_flows.specs.declared.FlowTable.{FlowTable}
+use Rattle.balance_flows.specs.Flows.{zero64, finite, allFinite, flowsOf, total, weighted, quotients}
 use Rattle.balance_round.specs.declared.Round.{Round}
 
 -- one exit's seeds, by entry
-abbrev pub column : (Flows → Float) → FlowTable → Flows
-column exit p = flowsOf (exit (p .left)) (exit (p .through)) (exit (p .right)) (exit (p .access))
+abbrev pub exitColumn : (Flows → Float) → FlowTable → Flows
+exitColumn exit p = flowsOf (exit (p .left)) (exit (p .through)) (exit (p .right)) (exit (p .access))
 
 -- 30-4: Da of each exit is the sum of Oa·p
 unfoldable pub destinations : Flows → FlowTable → Flows
 destinations o p =
     flowsOf
-    (weighted o (column (λ row. row .left) p))
-    (weighted o (column (λ row. row .through) p))
-    (weighted o (column (λ row. row .right) p))
-    (weighted o (column (λ row. row .access) p))
+    (weighted o (exitColumn (λ row. row .left) p))
+    (weighted o (exitColumn (λ row. row .through) p))
+    (weighted o (exitColumn (λ row. row .right) p))
+    (weighted o (exitColumn (λ row. row .access) p))
 
 -- 30-6: the factor of each entry is the sum of b·p
 unfoldable pub factorsOf : Flows → FlowTable → Flows

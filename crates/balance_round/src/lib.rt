@@ -1,11 +1,11 @@
 // One round of balancing, equations 30-4 to 30-7. Destinations are the exits, origins the entries.
 ghost use mathlib.Core.Path.{_≡_};
-ghost use Rattle.flows.specs.Flows.{flowsOf, weighted};
+ghost use Rattle.balance_flows.specs.Flows.{flowsOf, weighted};
 ghost use Rattle.balance_round.specs.Round.{destinations, factorsOf, difference, change, noQuotient, anyNoQuotient, roundOf, stops};
-use flows::FlowTable;
-use flows::Flows;
+use balance_flows::FlowTable;
+use balance_flows::Flows;
 
-// What one round reckons, in its order: adjusted destination volumes Da, destination adjustment factors b,
+// What one round computes, in its order: adjusted destination volumes Da, destination adjustment factors b,
 // origin adjustment factors, adjusted origin volumes Oa, and the sum of the differences of new and old Oa.
 pub struct Round {
     pub destinations: Flows,
@@ -105,9 +105,9 @@ pub fn round_of(o: Flows, d: Flows, p: FlowTable, old: Flows) -> Round
     ensures { λ r. ⌜ r ≡ roundOf o d p old ⌝ }
 {
     let destinations = destinations_of(old, p);
-    let ratios = flows::quotients(d, destinations);
+    let ratios = balance_flows::quotients(d, destinations);
     let factors = factors_of(ratios, p);
-    let origins = flows::quotients(o, factors);
+    let origins = balance_flows::quotients(o, factors);
     let change = change_of(origins, old);
     Round {
         destinations,
@@ -123,7 +123,7 @@ pub fn stops(o: Flows, d: Flows, x: Round) -> bool
     ensures { λ r. ⌜ r ≡ stops o d x ⌝ }
 {
     let undivided = any_no_quotient(d, x.destinations) | any_no_quotient(o, x.factors);
-    let exits = flows::all_finite(x.destinations) & flows::all_finite(x.ratios);
-    let entries = flows::all_finite(x.factors) & flows::all_finite(x.origins);
-    undivided | !(exits & entries & flows::is_finite(x.change))
+    let exits = balance_flows::all_finite(x.destinations) & balance_flows::all_finite(x.ratios);
+    let entries = balance_flows::all_finite(x.factors) & balance_flows::all_finite(x.origins);
+    undivided | !(exits & entries & balance_flows::is_finite(x.change))
 }

@@ -3,14 +3,14 @@
 // at 56 the rounds, at 60 the last sum, at 68 sixteen cells, at 196 sixteen pair flows.
 ghost use Prim.Native.Nat.{_+_, _≤_};
 ghost use lib.ListN.{length};
-ghost use Rattle.pair_shares.specs.Shares.{WithinLimit};
+ghost use Rattle.balance_pairs.specs.Pairs.{WithinLimit};
 use balance::Balance;
 use balance::Settling;
-use flows::FlowTable;
-use flows::Flows;
+use balance_decision::Verdict;
+use balance_flows::FlowTable;
+use balance_flows::Flows;
 use movements::Counts;
 use movements::Seeds;
-use shares::Verdict;
 
 fn counts_at(s: &[u8], at: usize) -> Counts
     requires { ⌜ at + 16 ≤ length (now s) ⌝ }
@@ -122,9 +122,9 @@ fn answer_differs(s: &[u8], o: Counts, exits: Counts, seeds: Seeds) -> bool
     requires { ⌜ 260 ≤ length (now s) ⌝ }
     requires { ⌜ WithinLimit o ⌝ }
 {
-    let x = shares::decide(o, exits, seeds);
+    let x = balance_decision::decide(o, exits, seeds);
     let verdict = x.verdict;
-    (octets::word4_at(s, 48) != shares::number_of(verdict))
+    (octets::word4_at(s, 48) != balance_decision::number_of(verdict))
         | vectors::rows_differ(s, 196, pair_flows::rows_of(x.pairs))
         | verdict_differs(s, verdict, x.rounds, balance::balanced(o, exits, seeds))
 }
@@ -134,16 +134,16 @@ fn case_differs(s: &[u8]) -> bool
     requires { ⌜ 260 ≤ length (now s) ⌝ }
 {
     let o = counts_at(s, 0);
-    if 6000 < o.left {
+    if limits::ENTRY_LIMIT < o.left {
         return true;
     }
-    if 6000 < o.through {
+    if limits::ENTRY_LIMIT < o.through {
         return true;
     }
-    if 6000 < o.right {
+    if limits::ENTRY_LIMIT < o.right {
         return true;
     }
-    if 6000 < o.access {
+    if limits::ENTRY_LIMIT < o.access {
         return true;
     }
     answer_differs(s, o, counts_at(s, 16), seeds_at(s, 32))

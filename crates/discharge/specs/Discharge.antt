@@ -8,7 +8,7 @@ use Rattle.refusal.specs.Refusal.{Or, refused, ok}
 use Rattle.segment.specs.declared.Segment.{Segment}
 use Rattle.segment.specs.Segment.{segmentOf}
 use Rattle.validation.specs.Accepting.{acceptWith}
-use Rattle.metering.specs.Metering.{discharged}
+use Rattle.metering.specs.Metering.{dischargeVolume}
 use Rattle.entries.specs.Entries.{entryProfile, EntryDischarge}
 use Rattle.discharge.specs.declared.Discharged.{Discharged}
 use Rattle.discharge.specs.declared.Discharged.the-variants.{Refused, Volumes}
@@ -20,7 +20,7 @@ acceptOf l room = acceptWith l (λ s. leb (3 * s .cycle) room)
 -- the answer's cases: the paper's number, or the three discharge volumes
 abbrev pub answerOf : Or Segment → Discharged
 answerOf (refused n) = Refused n
-answerOf (ok s) = Volumes (discharged (s .cycle) (s .left)) (discharged (s .cycle) (s .through)) (discharged (s .cycle) (s .right))
+answerOf (ok s) = Volumes (dischargeVolume (s .cycle) (s .left)) (dischargeVolume (s .cycle) (s .through)) (dischargeVolume (s .cycle) (s .right))
 
 -- three runs in order, numbers beyond staying
 unfoldable pub written : Segment → List ℕ → List ℕ

@@ -10,8 +10,8 @@ use Rattle.segment.specs.declared.Segment.{Segment}
 use Rattle.segment.specs.Segment.{segmentOf}
 use Rattle.ranges.specs.Ranges.{Ranges}
 use Rattle.validation.specs.Accepting.{accept-passed, accept-numbers}
-use Rattle.metering.specs.Metering.{discharged}
-use Rattle.entries.specs.Entries.{entryProfile, EntryDischarge}
+use Rattle.metering.specs.Metering.{dischargeVolume}
+use Rattle.entries.specs.Entries.{entryProfile}
 use Rattle.entries.specs.Laws.{entry-length, entry-discharge}
 use Rattle.discharge.specs.declared.Discharged.{Discharged}
 use Rattle.discharge.specs.declared.Discharged.the-variants.{Refused, Volumes}
@@ -19,7 +19,7 @@ use Rattle.discharge.specs.Discharge.{acceptOf, answerOf, written, profi
 
 -- three runs of C numbers, whatever stands beyond them
 runs-discharge : (s : Segment) (rest : List ℕ) → Ranges s →
-    EntriesDischarge s (discharged (s .cycle) (s .left)) (discharged (s .cycle) (s .through)) (discharged (s .cycle) (s .right))
+    EntriesDischarge s (dischargeVolume (s .cycle) (s .left)) (dischargeVolume (s .cycle) (s .through)) (dischargeVolume (s .cycle) (s .right))
     (entryProfile (s .cycle) (s .left) ++ (entryProfile (s .cycle) (s .through) ++ (entryProfile (s .cycle) (s .right) ++ rest)))
 runs-discharge s rest r =
     let c = s .cycle in
@@ -46,9 +46,9 @@ entries-discharge l p r p′ er ep left through right e = go (acceptOf l (length
     go (refused n) q er ep = absurd (let z : _≡_ {A = ℕ} 0 1 = cc in omega arith)
     go (ok s) q er ep =
         let a = accept-passed l _ s q .0 in
-        let el : left ≡ discharged (s .cycle) (s .left) = cc in
-        let et : through ≡ discharged (s .cycle) (s .through) = cc in
-        let eg : right ≡ discharged (s .cycle) (s .right) = cc in
+        let el : left ≡ dischargeVolume (s .cycle) (s .left) = cc in
+        let et : through ≡ dischargeVolume (s .cycle) (s .through) = cc in
+        let eg : right ≡ dischargeVolume (s .cycle) (s .right) = cc in
         rw (ep, el, et, eg, ← a .is) (runs-discharge s _ (a .ranges))
 
 -- so the answer and the profile are all of the contract

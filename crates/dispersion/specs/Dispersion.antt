@@ -10,10 +10,6 @@ use Rattle.dispersion.specs.declared.PlatoonState.{PlatoonState}
 abbrev pub smoothing : ℕ
 smoothing = 500000
 
--- the longest running time, up to which the step's numbers fit
-abbrev pub runningLimit : ℕ
-runningLimit = 300000
-
 -- D
 unfoldable pub divisorOf : ℕ → ℕ
 divisorOf running = 657500 + 69 * running

@@ -3,7 +3,8 @@
 ghost use mathlib.Core.Path.{_≡_};
 ghost use Prim.Native.Nat.{_≤_, _<_};
 ghost use lib.ListN.{length};
-ghost use Rattle.dispersion.specs.Dispersion.{runningLimit, divisorOf, arrivalTimeOf, stepOf, stateAfter, cycleWritten, work, cyclesWorked, firstHolds, lastPart};
+ghost use Rattle.limits.specs.Limits.{mostRunning};
+ghost use Rattle.dispersion.specs.Dispersion.{divisorOf, arrivalTimeOf, stepOf, stateAfter, cycleWritten, work, cyclesWorked, firstHolds, lastPart};
 
 // The numerator of the smoothing factor (N of the paper); the divisor stands under it.
 const SMOOTHING: u64 = 500000;
@@ -30,7 +31,7 @@ pub fn arrival_time(running: u32) -> u32
 
 // One step.
 fn step(running: u32, discharge: u32, state: PlatoonState) -> PlatoonState
-    requires { ⌜ running ≤ runningLimit ⌝ }
+    requires { ⌜ running ≤ mostRunning ⌝ }
     requires { ⌜ state .carry < divisorOf running ⌝ }
     ensures { λ r. ⌜ r ≡ stepOf running discharge state ⌝ }
 {
@@ -51,7 +52,7 @@ fn disperse(
     profile: &mut [u32],
     from: PlatoonState,
 ) -> PlatoonState
-    requires { ⌜ running ≤ runningLimit ⌝ }
+    requires { ⌜ running ≤ mostRunning ⌝ }
     requires { ⌜ from .carry < divisorOf running ⌝ }
     requires { ⌜ length (now discharge) ≤ length (now profile) ⌝ }
     ensures { λ r. ⌜ r ≡ stateAfter running (now (discharge .entry)) from ⌝ }
@@ -77,7 +78,7 @@ pub fn alternate(
     second: &mut [u32],
     cycles: u32,
 ) -> PlatoonState
-    requires { ⌜ running ≤ runningLimit ⌝ }
+    requires { ⌜ running ≤ mostRunning ⌝ }
     requires { ⌜ (length (now discharge) ≤ length (now first)) × (length (now discharge) ≤ length (now second)) ⌝ }
     ensures { λ r. ⌜ work r (now (first .exit)) (now (second .exit)) ≡ cyclesWorked running (now (discharge .entry)) cycles (now (first .entry)) (now (second .entry)) ⌝ }
 {

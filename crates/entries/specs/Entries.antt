@@ -7,19 +7,19 @@ use Rattle.lists.specs.Lists.{sum, numberAt}
 use Rattle.movements.specs.Movements.{flowUnits}
 use Rattle.signal.specs.Greens.{greenStep, inGreen}
 use Rattle.segment.specs.declared.Entry.{Entry}
-use Rattle.metering.specs.Metering.{discharged}
-use Rattle.platoon.specs.Discharge.{carried, onGreen, profileOf}
+use Rattle.metering.specs.Metering.{dischargeVolume}
+use Rattle.platoon.specs.Discharge.{carried, greenArrivals, profileOf}
 use Rattle.platoon.specs.Steps.{waitsIn}
 
 unfoldable pub entryProfile : ℕ → Entry → List ℕ
-entryProfile c e = profileOf c (e .green) (e .saturation) (e .arriving) (discharged c e)
+entryProfile c e = profileOf c (e .green) (e .saturation) (e .arriving) (dischargeVolume c e)
 
 -- what the paper says of an entry's discharge, read from a run of C numbers: o is the discharge volume, so that a cycle carries T
 pub record EntryDischarge (c : ℕ) (e : Entry) (o : ℕ) (run : List ℕ) : Type 0 where
   -- green step k discharges the smaller of 1000·saturation and what waits
   pub green : (k : ℕ) → 0 < k → k ≤ e .green .steps →
       numberAt run (greenStep c (e .green) k)
-      ≡ min (flowUnits (e .saturation)) (waitsIn c (e .green) (carried c o) (onGreen (carried c o) (e .arriving)) run k)
+      ≡ min (flowUnits (e .saturation)) (waitsIn c (e .green) (carried c o) (greenArrivals (carried c o) (e .arriving)) run k)
   -- other steps discharge 0
   pub red : (s : ℕ) → 0 < s → s ≤ c → inGreen c (e .green) s ≡ false → numberAt run s ≡ 0
   -- the cycle discharges T

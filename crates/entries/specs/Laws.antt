@@ -3,12 +3,13 @@ use Prim.Native.Nat.{ℕ, _≤_}
 use native.Mathlib.Omega.{arith}
 use mathlib.Core.Path.{_≡_}
 use lib.ListN.{length, getD}
+use Rattle.limits.specs.Limits.{entryLimit, flowLimit}
 use Rattle.lists.specs.Lists.{tab-length}
-use Rattle.movements.specs.Movements.{entryLimit, flowLimit, flowUnits}
+use Rattle.movements.specs.Movements.{flowUnits}
 use Rattle.signal.specs.Landing.{landed}
 use Rattle.segment.specs.declared.Entry.{Entry}
 use Rattle.ranges.specs.Ranges.{EntryRanges}
-use Rattle.metering.specs.Metering.{discharged, discharged-served, discharged-volume}
+use Rattle.metering.specs.Metering.{dischargeVolume, discharge-volume-served, discharge-volume-entry}
 use Rattle.platoon.specs.Discharge.{profileOf}
 use Rattle.platoon.specs.Conserved.{profile-sum, profile-le}
 use Rattle.platoon.specs.Steps.{profile-green, profile-red}
@@ -19,18 +20,18 @@ unfolding entryProfile profileOf landed
 entry-length c e = tab-length _ 1 c
 
 -- each green step, the zeros elsewhere, and the total: no more than its green can serve is discharged
-pub entry-discharge : (c : ℕ) (e : Entry) → EntryRanges c e → EntryDischarge c e (discharged c e) (entryProfile c e)
+pub entry-discharge : (c : ℕ) (e : Entry) → EntryRanges c e → EntryDischarge c e (dischargeVolume c e) (entryProfile c e)
 unfolding entryProfile
 entry-discharge c e r =
     record {
-      green = profile-green c (e .green) (e .saturation) (e .arriving) (discharged c e) (r .green);
-      red = profile-red c (e .green) (e .saturation) (e .arriving) (discharged c e) (r .green);
-      total = profile-sum c (e .green) (e .saturation) (e .arriving) (discharged c e) (omega (arith, r .green .start)) (r .arriving) (discharged-served c e);
+      green = profile-green c (e .green) (e .saturation) (e .arriving) (dischargeVolume c e) (r .green);
+      red = profile-red c (e .green) (e .saturation) (e .arriving) (dischargeVolume c e) (r .green);
+      total = profile-sum c (e .green) (e .saturation) (e .arriving) (dischargeVolume c e) (omega (arith, r .green .start)) (r .arriving) (discharge-volume-served c e);
     }
 
 pub entry-le : (c : ℕ) (e : Entry) → EntryRanges c e → (i : ℕ) → getD (entryProfile c e) i 0 ≤ flowUnits flowLimit
 unfolding entryProfile
-entry-le c e r i = omega (arith, profile-le c (e .green) (e .saturation) (e .arriving) (discharged c e) (r .green) i, r .saturation)
+entry-le c e r i = omega (arith, profile-le c (e .green) (e .saturation) (e .arriving) (dischargeVolume c e) (r .green) i, r .saturation)
 
-pub discharged-le : (c o : ℕ) (e : Entry) → EntryRanges c e → o ≡ discharged c e → o ≤ entryLimit
-discharged-le c o e r h = omega (arith, h, discharged-volume c e, r .volume)
+pub discharge-volume-le : (c o : ℕ) (e : Entry) → EntryRanges c e → o ≡ dischargeVolume c e → o ≤ entryLimit
+discharge-volume-le c o e r h = omega (arith, h, discharge-volume-entry c e, r .volume)

@@ -3,8 +3,8 @@ use archive_format::Answer;
 use archive_format::TitlePart;
 use discharge::Discharged;
 use libc::STDOUT_FILENO;
-use outcome::Outcome;
 use validation::Checked;
+use working_outcome::Outcome;
 
 // The paper's record 1: cycle 60, running time 40000 ms, headway 4100 ms, 360 veh/h in by access and out through.
 fn record() -> [u8; 68] {
@@ -31,7 +31,7 @@ fn say(label: &[u8], n: u64) {
 
 fn tell(label: &[u8], answer: Answer) {
     match answer {
-        Answer::Is(n) => say(label, n as u64),
+        Answer::Value(n) => say(label, n as u64),
         Answer::Refused(n) => say(b"refused ", n as u64),
     }
 }
@@ -64,7 +64,7 @@ fn read(archive: &[u8]) {
 fn print(archive: &[u8], text: &mut [u8]) {
     let answer = report::report(archive, text);
     match answer {
-        Answer::Is(n) => {
+        Answer::Value(n) => {
             io::write_all(STDOUT_FILENO, &text[0..n]);
         }
         Answer::Refused(n) => say(b"refused ", n as u64),
@@ -91,7 +91,7 @@ fn check(record: &[u8]) {
 }
 
 fn discharge_of(record: &[u8]) {
-    let mut profile = [0u32; 720];
+    let mut profile = [0u32; limits::DISCHARGE_ROOM];
     match discharge::discharge(record, &mut profile) {
         Discharged::Volumes {
             left: _,
@@ -103,9 +103,9 @@ fn discharge_of(record: &[u8]) {
 }
 
 fn work(record: &[u8]) {
-    let mut output = [0u32; 960];
-    let mut first = [0u32; 240];
-    let mut second = [0u32; 240];
+    let mut output = [0u32; limits::OUTPUT_ROOM];
+    let mut first = [0u32; limits::CYCLE_ROOM];
+    let mut second = [0u32; limits::CYCLE_ROOM];
     let w = working::work(record, &mut output, &mut first, &mut second);
     let outcome = w.outcome;
     match outcome {

@@ -2,10 +2,14 @@
 ghost use mathlib.Core.Path.{_≡_};
 ghost use Prim.Native.Nat.{_<_, _≤_};
 ghost use lib.ListN.{length};
+ghost use Rattle.limits.specs.Limits.{stepBound};
 ghost use Rattle.lists.specs.Lists.{sum};
-ghost use Rattle.signal.specs.Greens.{Within};
-ghost use Rattle.exit_figures.specs.ExitFigures.{onGreen, permilleOf, figuresOf, blocked, blockedSteps};
+ghost use Rattle.signal.specs.Greens.{GreenFits};
+ghost use Rattle.exit_figures.specs.ExitFigures.{totalBound, greenFlow, permilleOf, figuresOf, blocked, blockedSteps};
 use signal::Green;
+
+// One vehicle, 3600000 flow units, in the 1000 ms of a step: a flow times a headway in ms that is more leaves no headway free.
+const CRITICAL_PRODUCT: u64 = 3600000000;
 
 // A run's flow units in the cycle and in its green steps, and the thousandths that arrive on green.
 #[repr(C)]
@@ -16,7 +20,7 @@ pub struct ExitFigures {
 }
 
 pub fn total(run: &[u32]) -> u64
-    requires { ⌜ length (now run) < 1000 ⌝ }
+    requires { ⌜ length (now run) < stepBound ⌝ }
     ensures { λ r. ⌜ r ≡ sum (now (run .entry)) ⌝ }
 {
     let mut all: u64 = 0;
@@ -28,9 +32,9 @@ pub fn total(run: &[u32]) -> u64
     all
 }
 
-fn on_green(green: Green, run: &[u32]) -> u64
-    requires { ⌜ (length (now run) < 1000) × Within (length (now run)) green ⌝ }
-    ensures { λ r. ⌜ r ≡ onGreen green (now (run .entry)) ⌝ }
+fn green_flow(green: Green, run: &[u32]) -> u64
+    requires { ⌜ (length (now run) < stepBound) × GreenFits (length (now run)) green ⌝ }
+    ensures { λ r. ⌜ r ≡ greenFlow green (now (run .entry)) ⌝ }
 {
     let c = run.len() as u32;
     let mut arrived: u64 = 0;
@@ -45,7 +49,7 @@ fn on_green(green: Green, run: &[u32]) -> u64
 }
 
 fn permille(part: u64, whole: u64) -> u32
-    requires { ⌜ (part ≤ whole) × (whole < 1000000000000000) ⌝ }
+    requires { ⌜ (part ≤ whole) × (whole < totalBound) ⌝ }
     ensures { λ r. ⌜ r ≡ permilleOf part whole ⌝ }
 {
     if whole == 0 {
@@ -56,11 +60,11 @@ fn permille(part: u64, whole: u64) -> u32
 
 // The figures of a signalised exit, its run a cycle.
 pub fn figures(green: Green, run: &[u32]) -> ExitFigures
-    requires { ⌜ (length (now run) < 1000) × Within (length (now run)) green ⌝ }
+    requires { ⌜ (length (now run) < stepBound) × GreenFits (length (now run)) green ⌝ }
     ensures { λ r. ⌜ r ≡ figuresOf green (now (run .entry)) ⌝ }
 {
     let all = total(run);
-    let part = on_green(green, run);
+    let part = green_flow(green, run);
     ExitFigures {
         total: all,
         green: part,
@@ -72,11 +76,11 @@ pub fn figures(green: Green, run: &[u32]) -> ExitFigures
 fn is_blocked(flow: u32, headway: u32) -> bool
     ensures { λ r. ⌜ r ≡ blocked flow headway ⌝ }
 {
-    3600000000 < (flow as u64) * (headway as u64)
+    CRITICAL_PRODUCT < (flow as u64) * (headway as u64)
 }
 
 pub fn blocked_steps(headway: u32, run: &[u32]) -> u32
-    requires { ⌜ length (now run) < 1000 ⌝ }
+    requires { ⌜ length (now run) < stepBound ⌝ }
     ensures { λ r. ⌜ r ≡ blockedSteps headway (now (run .entry)) ⌝ }
 {
     let mut n: u32 = 0;

@@ -5,27 +5,27 @@ use mathlib.Core.List.{List}
 use lib.Ieee.{Float}
 use lib.ListN.{length}
 use Rattle.refusal.specs.Refusal.{Or}
-use Rattle.flows.specs.Flows.{zero64}
+use Rattle.balance_flows.specs.Flows.{zero64}
 use Rattle.segment.specs.Segment.{segmentOf}
 use Rattle.propagation.specs.Propagation.{Profiles}
-use Rattle.demand3.specs.Demand3.{Demand3}
-use Rattle.outcome.specs.declared.Outcome.{Outcome}
-use Rattle.outcome.specs.declared.Outcome.the-variants.{Worked, Refused as RefusedWork, Unsettled}
-use Rattle.outcome.specs.declared.Working.{Working}
-use Rattle.outcome.specs.Outcome.{numberOf}
+use Rattle.accuracy.specs.Accuracy.{Accurate}
+use Rattle.working_outcome.specs.declared.Outcome.{Outcome}
+use Rattle.working_outcome.specs.declared.Outcome.the-variants.{Worked, Refused as RefusedWork, Unsettled}
+use Rattle.working_outcome.specs.declared.Working.{Working}
+use Rattle.working_outcome.specs.Outcome.{numberOf}
 use Rattle.working.specs.Working.{callOf}
 use Rattle.discharge.specs.declared.Discharged.{Discharged}
 use Rattle.discharge.specs.declared.Discharged.the-variants.{Refused as RefusedVolumes, Volumes}
 use Rattle.discharge.specs.Discharge.{acceptOf, answerOf, profileAfter, EntriesDischarge}
 use Rattle.archive_format.specs.declared.Answer.{Answer}
-use Rattle.archive_format.specs.declared.Answer.the-variants.{Is, Refused}
+use Rattle.archive_format.specs.declared.Answer.the-variants.{Value, Refused}
 use Rattle.archive_format.specs.declared.TitlePart.{TitlePart}
 use Rattle.archive_format.specs.declared.TitlePart.the-variants.{Part, Refused as NoPart}
 use Rattle.archive_format.specs.Archive.{newLength, overwrite}
-use Rattle.exports.specs.declared.WorkTold.{WorkTold}
-use Rattle.exports.specs.declared.VolumesTold.{VolumesTold}
-use Rattle.exports.specs.declared.ValueTold.{ValueTold}
-use Rattle.exports.specs.declared.TitleTold.{TitleTold}
+use Rattle.exports.specs.declared.WorkAnswer.{WorkAnswer}
+use Rattle.exports.specs.declared.VolumesAnswer.{VolumesAnswer}
+use Rattle.exports.specs.declared.ValueAnswer.{ValueAnswer}
+use Rattle.exports.specs.declared.TitleAnswer.{TitleAnswer}
 
 -- the last sum beside an outcome's number: 0 and 15 tell it
 abbrev pub sumOf : Outcome → Float
@@ -33,8 +33,8 @@ sumOf (Worked sum) = sum
 sumOf (RefusedWork number) = zero64
 sumOf (Unsettled sum) = sum
 
-abbrev pub toldOf : Working → WorkTold
-toldOf w =
+abbrev pub workAnswer : Working → WorkAnswer
+workAnswer w =
     record {
       number = numberOf (w .outcome);
       rounds = w .rounds;
@@ -49,30 +49,30 @@ toldOf w =
     }
 
 -- the working as called: its answer in numbers, all three profiles, and demand 3 of every record and all profiles that it accepts
-pub record WorksTold (l : List ℕ) (p : Profiles) (r : WorkTold) (p′ : Profiles) : Type 0 where
-  pub answer : r ≡ toldOf (callOf l p .answer)
+pub record SegmentWorks (l : List ℕ) (p : Profiles) (r : WorkAnswer) (p′ : Profiles) : Type 0 where
+  pub answer : r ≡ workAnswer (callOf l p .answer)
   pub after : p′ ≡ callOf l p .after
-  pub demand : r .number ≡ 0 → Demand3 (segmentOf l) (r .pairs .rows) p′
+  pub demand : r .number ≡ 0 → Accurate (segmentOf l) (r .pairs .rows) p′
 
-abbrev pub volumesOf : Discharged → VolumesTold
-volumesOf (RefusedVolumes n) = record { number = n; left = 0; through = 0; right = 0 }
-volumesOf (Volumes left through right) = record { number = 0; left = left; through = through; right = right }
+abbrev pub volumesAnswer : Discharged → VolumesAnswer
+volumesAnswer (RefusedVolumes n) = record { number = n; left = 0; through = 0; right = 0 }
+volumesAnswer (Volumes left through right) = record { number = 0; left = left; through = through; right = right }
 
 -- the discharge call: its answer in numbers, the profile, and what every accepted record's entries discharge there
-pub record DischargesTold (l p : List ℕ) (r : VolumesTold) (p′ : List ℕ) : Type 0 where
-  pub answer : r ≡ volumesOf (answerOf (acceptOf l (length p)))
+pub record SegmentDischarges (l p : List ℕ) (r : VolumesAnswer) (p′ : List ℕ) : Type 0 where
+  pub answer : r ≡ volumesAnswer (answerOf (acceptOf l (length p)))
   pub profile : p′ ≡ profileAfter (acceptOf l (length p)) p
   pub entries : r .number ≡ 0 → EntriesDischarge (segmentOf l) (r .left) (r .through) (r .right) p′
 
-abbrev pub valueOf : Answer → ValueTold
-valueOf (Refused n) = record { number = n; value = 0 }
-valueOf (Is n) = record { number = 0; value = n }
+abbrev pub valueAnswer : Answer → ValueAnswer
+valueAnswer (Refused n) = record { number = n; value = 0 }
+valueAnswer (Value n) = record { number = 0; value = n }
 
 -- a call that writes bytes to a lent buffer, or refuses: its answer in numbers, and the buffer afterwards
-pub record WritesTold (x : Or (List ℕ)) (before : List ℕ) (r : ValueTold) (after : List ℕ) : Type 0 where
-  pub answer : r ≡ valueOf (newLength x)
+pub record ArchiveWrites (x : Or (List ℕ)) (before : List ℕ) (r : ValueAnswer) (after : List ℕ) : Type 0 where
+  pub answer : r ≡ valueAnswer (newLength x)
   pub buffer : after ≡ overwrite x before
 
-abbrev pub titleToldOf : TitlePart → TitleTold
-titleToldOf (NoPart n) = record { number = n; place = 0; length = 0 }
-titleToldOf (Part place size) = record { number = 0; place = place; length = size }
+abbrev pub titleAnswer : TitlePart → TitleAnswer
+titleAnswer (NoPart n) = record { number = n; place = 0; length = 0 }
+titleAnswer (Part place size) = record { number = 0; place = place; length = size }

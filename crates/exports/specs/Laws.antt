@@ -8,15 +8,15 @@ use lib.Dec.{eqb}
 use lib.Ieee.{Float}
 use lib.ListN.{length, take, drop}
 use Rattle.refusal.specs.Refusal.{Or, refused, ok}
-use Rattle.flows.specs.Flows.{zero64}
+use Rattle.balance_flows.specs.Flows.{zero64}
 use Rattle.segment.specs.declared.Segment.{Segment}
 use Rattle.segment.specs.Segment.{segmentOf}
-use Rattle.shares.specs.Sharing.{Told}
+use Rattle.balance_decision.specs.Sharing.{Told}
 use Rattle.propagation.specs.Propagation.{Profiles, filledOf}
-use Rattle.demand3.specs.Demand3.{Demand3}
-use Rattle.outcome.specs.declared.Outcome.the-variants.{Worked, Refused, Unsettled}
-use Rattle.outcome.specs.declared.Working.{Working}
-use Rattle.outcome.specs.Outcome.{numberOf, outcomeOf, outcome-number, workedOf}
+use Rattle.accuracy.specs.Accuracy.{Accurate}
+use Rattle.working_outcome.specs.declared.Outcome.the-variants.{Worked, Refused, Unsettled}
+use Rattle.working_outcome.specs.declared.Working.{Working}
+use Rattle.working_outcome.specs.Outcome.{numberOf, outcomeOf, outcome-number, workedOf}
 use Rattle.working.specs.Working.{Called, called, Works, acceptOf, callOf, byRecord, bySharing, sharingOf, unworkedOf}
 use Rattle.discharge.specs.declared.Discharged.{Discharged}
 use Rattle.discharge.specs.declared.Discharged.the-variants.{Refused as RefusedVolumes, Volumes}
@@ -25,16 +25,16 @@ use Rattle.discharge.specs.Laws.{refused-above}
 use Rattle.archive_format.specs.declared.Answer.{Answer}
 use Rattle.archive_format.specs.declared.TitlePart.{TitlePart}
 use Rattle.archive_format.specs.declared.TitlePart.the-variants.{Part, Refused as NoPart}
-use Rattle.archive_format.specs.Archive.{segments, bytesAt, titlePartOf, titleOf, Writes}
-use Rattle.exports.specs.declared.WorkTold.{WorkTold}
-use Rattle.exports.specs.declared.VolumesTold.{VolumesTold}
-use Rattle.exports.specs.declared.ValueTold.{ValueTold}
-use Rattle.exports.specs.declared.TitleTold.{TitleTold}
-use Rattle.exports.specs.Exports.{WorksTold, sumOf, toldOf, DischargesTold, volumesOf, valueOf, WritesTold, titleToldOf}
+use Rattle.archive_format.specs.Archive.{firstEdition, bytesAt, titlePartOf, titleOf, Writes}
+use Rattle.exports.specs.declared.WorkAnswer.{WorkAnswer}
+use Rattle.exports.specs.declared.VolumesAnswer.{VolumesAnswer}
+use Rattle.exports.specs.declared.ValueAnswer.{ValueAnswer}
+use Rattle.exports.specs.declared.TitleAnswer.{TitleAnswer}
+use Rattle.exports.specs.Exports.{SegmentWorks, sumOf, workAnswer, SegmentDischarges, volumesAnswer, valueAnswer, ArchiveWrites, titleAnswer}
 
 -- nothing is lost: number and sum say which outcome it was
-pub told-outcome : (n : ℕ) (sum : Float) → outcomeOf (numberOf (outcomeOf n sum)) (sumOf (outcomeOf n sum)) ≡ outcomeOf n sum
-told-outcome n sum = go (eqb n 0) refl (eqb n 15) refl
+pub answer-outcome : (n : ℕ) (sum : Float) → outcomeOf (numberOf (outcomeOf n sum)) (sumOf (outcomeOf n sum)) ≡ outcomeOf n sum
+answer-outcome n sum = go (eqb n 0) refl (eqb n 15) refl
   where
     go : (a : Bool) → eqb n 0 ≡ a → (b : Bool) → eqb n 15 ≡ b
         → outcomeOf (numberOf (cond a (Worked sum) (cond b (Unsettled sum) (Refused n)))) (sumOf (cond a (Worked sum) (cond b (Unsettled sum) (Refused n))))
@@ -71,47 +71,47 @@ call-worked l p = go (acceptOf l (length (p .output)) (length (p .first)) (lengt
     go (ok s) e = shared-worked s (sharingOf s) p e
 
 -- the call's contract, in numbers
-pub works-told : (l : List ℕ) (p : Profiles) (w : Working) (p′ : Profiles) (r : WorkTold) → Works l p w p′ → r ≡ toldOf w → WorksTold l p r p′
-works-told l p w p′ r works e =
+pub segment-works : (l : List ℕ) (p : Profiles) (w : Working) (p′ : Profiles) (r : WorkAnswer) → Works l p w p′ → r ≡ workAnswer w → SegmentWorks l p r p′
+segment-works l p w p′ r works e =
     let same : w ≡ callOf l p .answer = ap (λ (c : Called). c .answer) (works .is) in
     record {
-      answer = e ∙ ap toldOf same;
+      answer = e ∙ ap workAnswer same;
       after = ap (λ (c : Called). c .after) (works .is);
-      demand = λ z. demanded (call-worked l p (sym (ap (λ (v : Working). numberOf (v .outcome)) same) ∙ sym (ap (λ (t : WorkTold). t .number) e) ∙ z));
+      demand = λ z. demanded (call-worked l p (sym (ap (λ (v : Working). numberOf (v .outcome)) same) ∙ sym (ap (λ (t : WorkAnswer). t .number) e) ∙ z));
     }
   where
-    demanded : WorkedAt (callOf l p) → Demand3 (segmentOf l) (r .pairs .rows) p′
+    demanded : WorkedAt (callOf l p) → Accurate (segmentOf l) (r .pairs .rows) p′
     demanded a =
         let d = works .demand (a .sum) (ap (λ (c : Called). c .answer .outcome) (works .is) ∙ a .is) in
-        subst (λ (rows : List (List ℕ)). Demand3 (segmentOf l) rows p′) (sym (ap (λ (t : WorkTold). t .pairs .rows) e)) d
+        subst (λ (rows : List (List ℕ)). Accurate (segmentOf l) rows p′) (sym (ap (λ (t : WorkAnswer). t .pairs .rows) e)) d
 
 -- the discharge call's, in numbers
-pub discharges-told : (l p : List ℕ) (d : Discharged) (p′ : List ℕ) (r : VolumesTold) → Calls l p d p′ → r ≡ volumesOf d → DischargesTold l p r p′
-discharges-told l p d p′ r calls e =
+pub segment-discharges : (l p : List ℕ) (d : Discharged) (p′ : List ℕ) (r : VolumesAnswer) → Calls l p d p′ → r ≡ volumesAnswer d → SegmentDischarges l p r p′
+segment-discharges l p d p′ r calls e =
     record {
-      answer = e ∙ ap volumesOf (calls .answer);
+      answer = e ∙ ap volumesAnswer (calls .answer);
       profile = calls .profile;
       entries = rw e (go d calls);
     }
   where
-    go : (d : Discharged) → Calls l p d p′ → volumesOf d .number ≡ 0 →
-        EntriesDischarge (segmentOf l) (volumesOf d .left) (volumesOf d .through) (volumesOf d .right) p′
+    go : (d : Discharged) → Calls l p d p′ → volumesAnswer d .number ≡ 0 →
+        EntriesDischarge (segmentOf l) (volumesAnswer d .left) (volumesAnswer d .through) (volumesAnswer d .right) p′
     go (RefusedVolumes n) c z = absurd (let h = refused-above l (length p) n (sym (c .answer)) in omega arith)
     go (Volumes left through right) c z = c .entries left through right refl
 
-abbrev pub partOf : TitleTold → List ℕ → List ℕ
+abbrev pub partOf : TitleAnswer → List ℕ → List ℕ
 partOf t l = take (t .length) (drop (t .place) l)
 
 -- the part of the archive that is told is the title
-pub title-told : (l : List ℕ) (n : ℕ) → partOf (titleToldOf (titlePartOf segments l n)) l ≡ titleOf segments l n
+pub title-answer : (l : List ℕ) (n : ℕ) → partOf (titleAnswer (titlePartOf firstEdition l n)) l ≡ titleOf firstEdition l n
 unfolding titleOf
-title-told l n = go (titlePartOf segments l n)
+title-answer l n = go (titlePartOf firstEdition l n)
   where
-    go : (t : TitlePart) → partOf (titleToldOf t) l ≡ bytesAt l t
+    go : (t : TitlePart) → partOf (titleAnswer t) l ≡ bytesAt l t
     go (NoPart m) = refl
     go (Part place size) = refl
 
 -- a call that writes to a lent buffer, in numbers
-pub writes-told : {x : Or (List ℕ)} {before : List ℕ} {a : Answer} {after : List ℕ} {r : ValueTold} → Writes x before a after → r ≡ valueOf a
-    → WritesTold x before r after
-writes-told w e = record { answer = e ∙ ap valueOf (w .answer); buffer = w .buffer }
+pub archive-writes : {x : Or (List ℕ)} {before : List ℕ} {a : Answer} {after : List ℕ} {r : ValueAnswer} → Writes x before a after → r ≡ valueAnswer a
+    → ArchiveWrites x before r after
+archive-writes w e = record { answer = e ∙ ap valueAnswer (w .answer); buffer = w .buffer }

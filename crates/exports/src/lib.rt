@@ -6,21 +6,21 @@
 ghost use mathlib.Core.Path.{_≡_};
 ghost use lib.ListN.{length};
 ghost use Rattle.propagation.specs.Propagation.{profiles};
-ghost use Rattle.outcome.specs.Outcome.{numberOf};
-ghost use Rattle.archive_format.specs.Archive.{addOf, answerOf, countOf, findOf, placeOf, segments, titlePartOf};
+ghost use Rattle.working_outcome.specs.Outcome.{numberOf};
+ghost use Rattle.archive_format.specs.Archive.{addOf, answerOf, countOf, findOf, placeOf, firstEdition, titlePartOf};
 ghost use Rattle.report.specs.Report.{reportOf};
-ghost use Rattle.exports.specs.Exports.{WorksTold, sumOf, toldOf, DischargesTold, volumesOf, valueOf, WritesTold, titleToldOf};
+ghost use Rattle.exports.specs.Exports.{SegmentWorks, sumOf, workAnswer, SegmentDischarges, volumesAnswer, valueAnswer, ArchiveWrites, titleAnswer};
 use archive_format::Answer;
 use archive_format::TitlePart;
 use discharge::Discharged;
 use exit_figures::ExitFigures;
-use outcome::Outcome;
-use outcome::Working;
 use pair_flows::PairFlows;
+use working_outcome::Outcome;
+use working_outcome::Working;
 
 // A working's answer: 0 and 15 tell the last sum.
 #[repr(C)]
-pub struct WorkTold {
+pub struct WorkAnswer {
     pub number: u32,
     pub rounds: u32,
     pub sum: f64,
@@ -35,7 +35,7 @@ pub struct WorkTold {
 
 // The three entries' discharge volumes in veh/h.
 #[repr(C)]
-pub struct VolumesTold {
+pub struct VolumesAnswer {
     pub number: u32,
     pub left: u32,
     pub through: u32,
@@ -44,14 +44,14 @@ pub struct VolumesTold {
 
 // A count, a place or a length.
 #[repr(C)]
-pub struct ValueTold {
+pub struct ValueAnswer {
     pub number: u32,
     pub value: usize,
 }
 
 // Where a title stands in its archive.
 #[repr(C)]
-pub struct TitleTold {
+pub struct TitleAnswer {
     pub number: u32,
     pub place: usize,
     pub length: usize,
@@ -77,15 +77,15 @@ fn sum_of(outcome: Outcome) -> f64
     }
 }
 
-fn told(w: Working) -> WorkTold
-    ensures { λ r. ⌜ r ≡ toldOf w ⌝ }
+fn work_answer(w: Working) -> WorkAnswer
+    ensures { λ r. ⌜ r ≡ workAnswer w ⌝ }
 {
     let outcome = w.outcome;
     let pairs = w.pairs;
     let left = w.left;
     let through = w.through;
     let right = w.right;
-    WorkTold {
+    WorkAnswer {
         number: number_of(outcome),
         rounds: w.rounds,
         sum: sum_of(outcome),
@@ -99,11 +99,11 @@ fn told(w: Working) -> WorkTold
     }
 }
 
-fn volumes(d: Discharged) -> VolumesTold
-    ensures { λ r. ⌜ r ≡ volumesOf d ⌝ }
+fn volumes_answer(d: Discharged) -> VolumesAnswer
+    ensures { λ r. ⌜ r ≡ volumesAnswer d ⌝ }
 {
     match d {
-        Discharged::Refused(n) => VolumesTold {
+        Discharged::Refused(n) => VolumesAnswer {
             number: n,
             left: 0,
             through: 0,
@@ -113,7 +113,7 @@ fn volumes(d: Discharged) -> VolumesTold
             left,
             through,
             right,
-        } => VolumesTold {
+        } => VolumesAnswer {
             number: 0,
             left: left,
             through: through,
@@ -122,15 +122,15 @@ fn volumes(d: Discharged) -> VolumesTold
     }
 }
 
-fn value(a: Answer) -> ValueTold
-    ensures { λ r. ⌜ r ≡ valueOf a ⌝ }
+fn value_answer(a: Answer) -> ValueAnswer
+    ensures { λ r. ⌜ r ≡ valueAnswer a ⌝ }
 {
     match a {
-        Answer::Refused(n) => ValueTold {
+        Answer::Refused(n) => ValueAnswer {
             number: n,
             value: 0,
         },
-        Answer::Is(n) => ValueTold {
+        Answer::Value(n) => ValueAnswer {
             number: 0,
             value: n,
         },
@@ -144,57 +144,57 @@ pub extern "C" fn segment_work(
     output: &mut [u32],
     first: &mut [u32],
     second: &mut [u32],
-) -> WorkTold
-    ensures { λ r. ⌜ WorksTold (now (bytes .entry)) (profiles (now (output .entry)) (now (first .entry)) (now (second .entry))) r (profiles (now (output .exit)) (now (first .exit)) (now (second .exit))) ⌝ }
+) -> WorkAnswer
+    ensures { λ r. ⌜ SegmentWorks (now (bytes .entry)) (profiles (now (output .entry)) (now (first .entry)) (now (second .entry))) r (profiles (now (output .exit)) (now (first .exit)) (now (second .exit))) ⌝ }
 {
-    told(working::work(bytes, output, first, second))
+    work_answer(working::work(bytes, output, first, second))
 }
 
 // `discharge::discharge`.
 #[no_mangle]
-pub extern "C" fn segment_discharge(bytes: &[u8], profile: &mut [u32]) -> VolumesTold
-    ensures { λ r. ⌜ DischargesTold (now (bytes .entry)) (now (profile .entry)) r (now (profile .exit)) ⌝ }
+pub extern "C" fn segment_discharge(bytes: &[u8], profile: &mut [u32]) -> VolumesAnswer
+    ensures { λ r. ⌜ SegmentDischarges (now (bytes .entry)) (now (profile .entry)) r (now (profile .exit)) ⌝ }
 {
-    volumes(discharge::discharge(bytes, profile))
+    volumes_answer(discharge::discharge(bytes, profile))
 }
 
 // `archive_read::count`.
 #[no_mangle]
-pub extern "C" fn archive_count(archive: &[u8]) -> ValueTold
-    ensures { λ r. ⌜ r ≡ valueOf (answerOf (countOf segments (now (archive .entry)))) ⌝ }
+pub extern "C" fn archive_count(archive: &[u8]) -> ValueAnswer
+    ensures { λ r. ⌜ r ≡ valueAnswer (answerOf (countOf firstEdition (now (archive .entry)))) ⌝ }
 {
-    value(archive_read::count(archive))
+    value_answer(archive_read::count(archive))
 }
 
 // `archive_read::place`, the index from 0.
 #[no_mangle]
-pub extern "C" fn archive_place(archive: &[u8], i: usize) -> ValueTold
-    ensures { λ r. ⌜ r ≡ valueOf (answerOf (placeOf segments (now (archive .entry)) i)) ⌝ }
+pub extern "C" fn archive_place(archive: &[u8], i: usize) -> ValueAnswer
+    ensures { λ r. ⌜ r ≡ valueAnswer (answerOf (placeOf firstEdition (now (archive .entry)) i)) ⌝ }
 {
-    value(archive_read::place(archive, i))
+    value_answer(archive_read::place(archive, i))
 }
 
 // `archive_read::find`.
 #[no_mangle]
-pub extern "C" fn archive_find(archive: &[u8], number: u32) -> ValueTold
-    ensures { λ r. ⌜ r ≡ valueOf (answerOf (findOf segments (now (archive .entry)) number)) ⌝ }
+pub extern "C" fn archive_find(archive: &[u8], number: u32) -> ValueAnswer
+    ensures { λ r. ⌜ r ≡ valueAnswer (answerOf (findOf firstEdition (now (archive .entry)) number)) ⌝ }
 {
-    value(archive_read::find(archive, number))
+    value_answer(archive_read::find(archive, number))
 }
 
 // `archive_read::title_part`; no reference is handed to C.
 #[no_mangle]
-pub extern "C" fn archive_title(archive: &[u8], number: u32) -> TitleTold
-    ensures { λ r. ⌜ r ≡ titleToldOf (titlePartOf segments (now (archive .entry)) number) ⌝ }
+pub extern "C" fn archive_title(archive: &[u8], number: u32) -> TitleAnswer
+    ensures { λ r. ⌜ r ≡ titleAnswer (titlePartOf firstEdition (now (archive .entry)) number) ⌝ }
 {
     let part = archive_read::title_part(archive, number);
     match part {
-        TitlePart::Refused(n) => TitleTold {
+        TitlePart::Refused(n) => TitleAnswer {
             number: n,
             place: 0,
             length: 0,
         },
-        TitlePart::Part { place, length } => TitleTold {
+        TitlePart::Part { place, length } => TitleAnswer {
             number: 0,
             place: place,
             length: length,
@@ -209,16 +209,16 @@ pub extern "C" fn archive_add(
     bytes: &[u8],
     title: &[u8],
     buffer: &mut [u8],
-) -> ValueTold
-    ensures { λ r. ⌜ WritesTold (addOf segments (now (archive .entry)) (now (bytes .entry)) (now (title .entry)) (length (now (buffer .entry)))) (now (buffer .entry)) r (now (buffer .exit)) ⌝ }
+) -> ValueAnswer
+    ensures { λ r. ⌜ ArchiveWrites (addOf firstEdition (now (archive .entry)) (now (bytes .entry)) (now (title .entry)) (length (now (buffer .entry)))) (now (buffer .entry)) r (now (buffer .exit)) ⌝ }
 {
-    value(archive_add::add(archive, bytes, title, buffer))
+    value_answer(archive_add::add(archive, bytes, title, buffer))
 }
 
 // `report::report`: 17 where the buffer is under 262144 bytes.
 #[no_mangle]
-pub extern "C" fn archive_report(archive: &[u8], text: &mut [u8]) -> ValueTold
-    ensures { λ r. ⌜ WritesTold (reportOf (now (archive .entry)) (length (now (text .entry)))) (now (text .entry)) r (now (text .exit)) ⌝ }
+pub extern "C" fn archive_report(archive: &[u8], text: &mut [u8]) -> ValueAnswer
+    ensures { λ r. ⌜ ArchiveWrites (reportOf (now (archive .entry)) (length (now (text .entry)))) (now (text .entry)) r (now (text .exit)) ⌝ }
 {
-    value(report::report(archive, text))
+    value_answer(report::report(archive, text))
 }

@@ -15,8 +15,8 @@ use Rattle.segment.specs.Layout.{greenOf, greensOf, entryOf, volumesOf, rowOf, 
 use Rattle.segment.specs.Segment.{zeroSeeds, seedsOf, segmentOf}
 use Rattle.ranges.specs.Tests.{cycleFits, runningFits, headwayFits, volumesFit, greensFit, seedsAdd}
 use Rattle.validation.specs.Validation.{checkOf}
-use Rattle.metering.specs.Metering.{capacity, discharged}
-use Rattle.platoon.specs.Discharge.{carried, onGreen, received, servedOf, served, queueOf, greenFlows, profileOf}
+use Rattle.metering.specs.Metering.{capacity, dischargeVolume}
+use Rattle.platoon.specs.Discharge.{carried, greenArrivals, received, servedOf, served, queueOf, greenFlows, profileOf}
 use Rattle.entries.specs.Entries.{entryProfile}
 use Rattle.validation.specs.Accepting.{acceptWith}
 use Rattle.discharge.specs.Discharge.{acceptOf, written, profileAfter}
@@ -79,5 +79,5 @@ pub figures :
     ∷ (0 ∷ 0 ∷ 1 ∷ 0 ∷ 69 ∷ 0 ∷ 68 ∷ 82 ∷ [])
     ∷ (77 ∷ [])
     ∷ []
-unfolding computed divisorOf arrivalTimeOf stepOf stateAfter parts pairArrivals blocked blockedSteps body places encode printables titled rising lastNumber filedFrom runs decodeBody decode addTo addOf emptyArchive oneRecord tab turn greenStep greenSteps capacity received landing landed need word2 word4 greenOf greensOf entryOf volumesOf rowOf tableOf zeroSeeds seedsOf segmentOf cycleFits runningFits headwayFits volumesFit greensFit seedsAdd checkOf discharged carried onGreen servedOf served queueOf greenFlows profileOf entryProfile acceptWith written
+unfolding computed divisorOf arrivalTimeOf stepOf stateAfter parts pairArrivals blocked blockedSteps body places encode printables titled rising lastNumber filedFrom runs decodeBody decode addTo addOf emptyArchive oneRecord tab turn greenStep greenSteps capacity received landing landed need word2 word4 greenOf greensOf entryOf volumesOf rowOf tableOf zeroSeeds seedsOf segmentOf cycleFits runningFits headwayFits volumesFit greensFit seedsAdd checkOf dischargeVolume carried greenArrivals servedOf served queueOf greenFlows profileOf entryProfile acceptWith written
 figures = refl

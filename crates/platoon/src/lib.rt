@@ -2,10 +2,10 @@
 ghost use mathlib.Core.Path.{_≡_};
 ghost use Prim.Native.Nat.{_+_, _*_, _/_, _≤_, _<_};
 ghost use lib.ListN.{length, replicate};
-ghost use Rattle.movements.specs.Movements.{entryLimit, flowLimit};
-ghost use Rattle.signal.specs.Greens.{Within};
+ghost use Rattle.limits.specs.Limits.{entryLimit, flowLimit, mostArriving, stepBound};
+ghost use Rattle.signal.specs.Greens.{GreenFits};
 ghost use Rattle.signal.specs.Landing.{added};
-ghost use Rattle.platoon.specs.Discharge.{greenFlows, profileOf, queueOf, servedOf};
+ghost use Rattle.platoon.specs.Discharge.{cycleBound, greenFlows, profileOf, queueOf, servedOf};
 use movements::flow_units;
 use signal::Green;
 
@@ -40,7 +40,7 @@ fn serve(queue: u64, rate: u32) -> Served
 
 // What has arrived on green by the end of the step after those that are gone.
 fn arrived(gone: u32, arriving: u64, g: u32) -> u64
-    requires { ⌜ (gone < g) × (g ≤ 1000) × (arriving ≤ 1000000000000) ⌝ }
+    requires { ⌜ (gone < g) × (g < stepBound) × (arriving ≤ cycleBound) ⌝ }
     ensures { λ r. ⌜ r ≡ (gone + 1) * arriving / g ⌝ }
 {
     ((gone + 1) as u64) * arriving / (g as u64)
@@ -48,8 +48,8 @@ fn arrived(gone: u32, arriving: u64, g: u32) -> u64
 
 // Serves the queue step by step of the green, into an empty cycle.
 fn release(green: Green, queue: Queue, run: &mut [u32])
-    requires { ⌜ (length (now run) < 1000) × Within (length (now run)) green ⌝ }
-    requires { ⌜ (queue .waiting ≤ 1000000000000) × (queue .arriving ≤ 1000000000000) ⌝ }
+    requires { ⌜ (length (now run) < stepBound) × GreenFits (length (now run)) green ⌝ }
+    requires { ⌜ (queue .waiting ≤ cycleBound) × (queue .arriving ≤ cycleBound) ⌝ }
     requires { ⌜ now run ≡ replicate (length (now run)) 0 ⌝ }
     ensures { λ _. ⌜ now (run .exit) ≡ added (length (now (run .entry))) (green .start .0) 1 (greenFlows (green .steps) queue) (now (run .entry)) ⌝ }
 {
@@ -71,7 +71,7 @@ fn release(green: Green, queue: Queue, run: &mut [u32])
 
 // The queue of a cycle of c steps at a discharge volume: what does not arrive on green waits when green starts.
 fn queue_of(c: u32, saturation: u32, arriving: u32, volume: u32) -> Queue
-    requires { ⌜ (c < 1000) × (saturation ≤ flowLimit) × (arriving ≤ 1000) × (volume ≤ entryLimit) ⌝ }
+    requires { ⌜ (c < stepBound) × (saturation ≤ flowLimit) × (arriving ≤ mostArriving) × (volume ≤ entryLimit) ⌝ }
     ensures { λ r. ⌜ r ≡ queueOf c saturation arriving volume ⌝ }
 {
     let all = (flow_units(volume) as u64) * (c as u64);
@@ -85,8 +85,8 @@ fn queue_of(c: u32, saturation: u32, arriving: u32, volume: u32) -> Queue
 
 // Writes an entry's discharge profile over a run of the cycle's length.
 pub fn discharge(green: Green, saturation: u32, arriving: u32, volume: u32, run: &mut [u32])
-    requires { ⌜ (length (now run) < 1000) × Within (length (now run)) green ⌝ }
-    requires { ⌜ (saturation ≤ flowLimit) × (arriving ≤ 1000) × (volume ≤ entryLimit) ⌝ }
+    requires { ⌜ (length (now run) < stepBound) × GreenFits (length (now run)) green ⌝ }
+    requires { ⌜ (saturation ≤ flowLimit) × (arriving ≤ mostArriving) × (volume ≤ entryLimit) ⌝ }
     ensures { λ _. ⌜ now (run .exit) ≡ profileOf (length (now (run .entry))) green saturation arriving volume ⌝ }
 {
     runs::fill(run, 0);

@@ -5,11 +5,12 @@ use mathlib.Core.Path.{_≡_, refl, ap, _∙_}
 use mathlib.Core.List.{List, []}
 use lib.ListN.{length, drop, getD}
 use lib.Seq.{drop-at}
-use Rattle.movements.specs.Movements.{entryLimit, flowUnits}
+use Rattle.limits.specs.Limits.{entryLimit}
+use Rattle.movements.specs.Movements.{flowUnits}
 use Rattle.segment.specs.declared.Entry.{Entry}
 use Rattle.segment.specs.declared.Segment.{Segment}
 use Rattle.ranges.specs.Ranges.{Ranges, EntryRanges}
-use Rattle.metering.specs.Metering.{discharged}
+use Rattle.metering.specs.Metering.{dischargeUnits}
 use Rattle.entries.specs.Entries.{entryProfile}
 use Rattle.entries.specs.Laws.{entry-length, entry-le}
 use Rattle.dispersion.specs.Dispersion.{arrivalTimeOf, reported}
@@ -17,7 +18,7 @@ use Rattle.dispersion.specs.Cycles.{reported-length, reported-le}
 use Rattle.arrivals.specs.Arrivals.{arrivalLimit, runLimit, begun, fourRuns}
 use Rattle.arrivals.specs.Laws.{runs-le, begun-runs, added-runs, lands-le}
 use Rattle.propagation.specs.Propagation.{Profiles, profiles, cycles, pairFlow, entryArrivals, pairOf, landsIn, flowAt, filledOf}
-use Rattle.propagation.specs.Steps.{spreadStep, EntryAsks, entryStep, Room, RowsFit, FillAsks, room-kept}
+use Rattle.propagation.specs.Steps.{spreadStep, FillEntryFits, entryStep, Room, RowsFit, FillFits, room-kept}
 
 -- the flow units that the access entry can bring to a step
 abbrev pub accessLimit : ℕ
@@ -31,7 +32,7 @@ pub record Filling (s : Segment) (p₀ p : Profiles) (b : ℕ) (r : ℕ → ℕ 
   pub first : drop (s .cycle) (p .first) ≡ drop (s .cycle) (p₀ .first)
   pub second : drop (s .cycle) (p .second) ≡ drop (s .cycle) (p₀ .second)
 
-pub fill-begin : {s : Segment} {rows : List (List ℕ)} {o f g : List ℕ} → FillAsks s rows (profiles o f g) → {o′ : List ℕ} →
+pub fill-begin : {s : Segment} {rows : List (List ℕ)} {o f g : List ℕ} → FillFits s rows (profiles o f g) → {o′ : List ℕ} →
     o′ ≡ begun (s .cycle) (getD rows 3 []) o → length o′ ≡ length o → Filling s (profiles o f g) (profiles o′ f g) accessLimit (λ j k. pairFlow rows 3 j)
 fill-begin {s} {rows} {o} h e n =
     record {
@@ -44,7 +45,7 @@ fill-begin {s} {rows} {o} h e n =
 
 module _ {s : Segment} {p₀ p : Profiles} {b : ℕ} {r : ℕ → ℕ → ℕ} (h : Filling s p₀ p b r) (ranges : Ranges s) where
   pub fill-asks : b ≤ runLimit → {e : Entry} (row : List ℕ) → EntryRanges (s .cycle) e →
-      ((j : ℕ) → getD row j 0 ≤ flowUnits (discharged (s .cycle) e)) → EntryAsks (s .running) (s .cycle) e row p
+      ((j : ℕ) → getD row j 0 ≤ dischargeUnits (s .cycle) e) → FillEntryFits (s .running) (s .cycle) e row p
   fill-asks hb row er shares =
       record {
         time = ranges .running .1;
@@ -58,7 +59,7 @@ module _ {s : Segment} {p₀ p : Profiles} {b : ℕ} {r : ℕ → ℕ → ℕ} (
 
   -- one entry more: to each number what lands there is added
   pub fill-entry : {e : Entry} (row : List ℕ) → EntryRanges (s .cycle) e → length row ≡ 4 →
-      ((j : ℕ) → getD row j 0 ≤ flowUnits (discharged (s .cycle) e)) → {p′ : Profiles} → p′ ≡ entryStep (s .running) (s .cycle) e row p →
+      ((j : ℕ) → getD row j 0 ≤ dischargeUnits (s .cycle) e) → {p′ : Profiles} → p′ ≡ entryStep (s .running) (s .cycle) e row p →
       Room (s .cycle) p′ → Filling s p₀ p′ (b + arrivalLimit) (λ j k. r j k + landsIn s e (getD row j 0) k)
   unfolding entryStep spreadStep landsIn pairOf entryArrivals
   fill-entry {e} row er four shares {p′} ep room =
@@ -70,13 +71,13 @@ module _ {s : Segment} {p₀ p : Profiles} {b : ℕ} {r : ℕ → ℕ → ℕ} (
       record {
         room = room;
         runs = ap (λ (x : Profiles). x .output) ep
-            ∙ rw (h .runs, l) (added-runs c (arrivalTimeOf (s .running)) (flowUnits (discharged c e)) (reported (s .running) q cycles) row r
+            ∙ rw (h .runs, l) (added-runs c (arrivalTimeOf (s .running)) (dischargeUnits c e) (reported (s .running) q cycles) row r
             (drop (4 * c) (p₀ .output)) (omega (arith, ranges .cycle)) four);
         small = λ j k hj pos fits.
             omega (
               arith,
               h .small j k hj pos fits,
-              lands-le c (arrivalTimeOf (s .running)) k (getD row j 0) (flowUnits (discharged c e)) arrivalLimit (reported (s .running) q cycles) pos fits
+              lands-le c (arrivalTimeOf (s .running)) k (getD row j 0) (dischargeUnits c e) arrivalLimit (reported (s .running) q cycles) pos fits
                   (omega (arith, n2)) (shares j) (reported-le (s .running) arrivalLimit q cycles (entry-le c e er)),
             );
         first = ap (λ (x : Profiles). drop c (x .first)) ep ∙ rw l (drop-at (reported (s .running) q 1) (drop c (p .first)) c n1) ∙ h .first;
@@ -85,7 +86,7 @@ module _ {s : Segment} {p₀ p : Profiles} {b : ℕ} {r : ℕ → ℕ → ℕ} (
 
 module _ {s : Segment} {p₀ : Profiles} {o f g : List ℕ} {b : ℕ} (ranges : Ranges s) where
   pub then-entry : {r : ℕ → ℕ → ℕ} → Filling s p₀ (profiles o f g) b r → {e : Entry} (row : List ℕ) → EntryRanges (s .cycle) e → length row ≡ 4 →
-      ((j : ℕ) → getD row j 0 ≤ flowUnits (discharged (s .cycle) e)) → {o′ f′ g′ : List ℕ} →
+      ((j : ℕ) → getD row j 0 ≤ dischargeUnits (s .cycle) e) → {o′ f′ g′ : List ℕ} →
       profiles o′ f′ g′ ≡ entryStep (s .running) (s .cycle) e row (profiles o f g) →
       length o′ ≡ length o → length f′ ≡ length f → length g′ ≡ length g →
       Filling s p₀ (profiles o′ f′ g′) (b + arrivalLimit) (λ j k. r j k + landsIn s e (getD row j 0) k)

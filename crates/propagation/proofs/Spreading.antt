@@ -6,22 +6,22 @@ use mathlib.Core.Path.{_≡_, ap, _∙_}
 use mathlib.Core.List.{List, _++_}
 use lib.ListN.{length, take, drop, length-append}
 use lib.Seq.{take-at}
-use Rattle.movements.specs.Movements.{flowUnits}
+use Rattle.limits.specs.Limits.{mostRunning, stepBound}
 use Rattle.segment.specs.declared.Entry.{Entry}
-use Rattle.metering.specs.Metering.{discharged}
+use Rattle.metering.specs.Metering.{dischargeUnits}
 use Rattle.entries.specs.Entries.{entryProfile}
 use Rattle.entries.specs.Laws.{entry-length, entry-le}
 use Rattle.dispersion.specs.declared.PlatoonState.{PlatoonState}
-use Rattle.dispersion.specs.Dispersion.{runningLimit, Work, work, arrivalTimeOf, reported, cyclesWorked, lastPart}
+use Rattle.dispersion.specs.Dispersion.{Work, work, arrivalTimeOf, reported, cyclesWorked, lastPart}
 use Rattle.dispersion.specs.Arrivals.{arrival-time-nearest}
 use Rattle.dispersion.specs.Cycles.{last-part, two-left, reported-length, reported-le}
 use Rattle.arrivals.specs.Arrivals.{arrivalLimit, entryAdded}
 use Rattle.arrivals.specs.Arrivals as arrivals
 use Rattle.propagation.specs.Propagation.{Profiles, profiles, cycles}
-use Rattle.propagation.specs.Steps.{SpreadAsks, spreadStep, EntryAsks, entryStep}
+use Rattle.propagation.specs.Steps.{SpreadFits, spreadStep, FillEntryFits, entryStep}
 
 -- the platoon arrival time is small
-pub time-small : (running : ℕ) → running ≤ runningLimit → arrivalTimeOf running < 1000
+pub time-small : (running : ℕ) → running ≤ mostRunning → arrivalTimeOf running < stepBound
 time-small running h = omega (arith, arrival-time-nearest running)
 
 module _ (running : ℕ) (q f g : List ℕ) {st : PlatoonState} {f′ g′ : List ℕ} (e : work st f′ g′ ≡ cyclesWorked running q cycles f g) where
@@ -35,8 +35,8 @@ module _ (running : ℕ) (q f g : List ℕ) {st : PlatoonState} {f′ g′ : Lis
   pub second-is : g′ ≡ reported running q cycles ++ drop (length q) g
   second-is = ap (λ (w : Work). w .second) (e ∙ two-left running q f g)
 
-  pub spread-adds : {units : ℕ} {row out part : List ℕ} → SpreadAsks running units row q (profiles out f g) →
-      part ≡ lastPart f′ g′ cycles (length q) → {t : ℕ} → t ≡ arrivalTimeOf running → arrivals.EntryRanges units t row part out
+  pub spread-adds : {units : ℕ} {row out part : List ℕ} → SpreadFits running units row q (profiles out f g) →
+      part ≡ lastPart f′ g′ cycles (length q) → {t : ℕ} → t ≡ arrivalTimeOf running → arrivals.EntryFits units t row part out
   spread-adds h p et = rw (part-is p, et) (h .adds)
 
   pub spread-done : (units : ℕ) (row out : List ℕ) {part out′ : List ℕ} → part ≡ lastPart f′ g′ cycles (length q) → {t : ℕ} → t ≡ arrivalTimeOf running →
@@ -55,8 +55,8 @@ module _ (c : ℕ) (e : Entry) (ys : List ℕ) (made : ys ≡ entryProfile c e) 
   front-long rest = rw made (simp length-append (omega (arith, entry-length c e)))
 
 -- what the spreading asks of an entry of the record
-pub entry-asks : {running c : ℕ} {e : Entry} {row : List ℕ} {p : Profiles} → EntryAsks running c e row p →
-    {units : ℕ} → units ≡ flowUnits (discharged c e) → {q : List ℕ} → q ≡ entryProfile c e → SpreadAsks running units row q p
+pub entry-asks : {running c : ℕ} {e : Entry} {row : List ℕ} {p : Profiles} → FillEntryFits running c e row p →
+    {units : ℕ} → units ≡ dischargeUnits c e → {q : List ℕ} → q ≡ entryProfile c e → SpreadFits running units row q p
 entry-asks {running} {c} {e} {row} {p} h eu eq =
     let l : length (entryProfile c e) ≡ c = entry-length c e in
     let n : length (reported running (entryProfile c e) cycles) ≡ c = reported-length running (entryProfile c e) 1 ∙ l in
@@ -76,7 +76,7 @@ entry-asks {running} {c} {e} {row} {p} h eu eq =
       };
     })
 
-pub entry-done : (running c : ℕ) (e : Entry) (row : List ℕ) (p : Profiles) {p′ : Profiles} {units : ℕ} → units ≡ flowUnits (discharged c e) →
+pub entry-done : (running c : ℕ) (e : Entry) (row : List ℕ) (p : Profiles) {p′ : Profiles} {units : ℕ} → units ≡ dischargeUnits c e →
     {q : List ℕ} → q ≡ entryProfile c e → p′ ≡ spreadStep running units row q p → p′ ≡ entryStep running c e row p
 unfolding entryStep
 entry-done running c e row p eu eq h = h ∙ rw (eu, eq)

@@ -2,11 +2,10 @@
 use Prim.Native.Nat.{ℕ, _+_, _*_}
 use mathlib.Core.List.{List, [], _++_}
 use lib.ListN.{drop, getD}
-use Rattle.movements.specs.Movements.{flowUnits}
 use Rattle.signal.specs.Landing.{landing}
 use Rattle.segment.specs.declared.Entry.{Entry}
 use Rattle.segment.specs.declared.Segment.{Segment}
-use Rattle.metering.specs.Metering.{discharged}
+use Rattle.metering.specs.Metering.{dischargeUnits}
 use Rattle.entries.specs.Entries.{entryProfile}
 use Rattle.dispersion.specs.Dispersion.{arrivalTimeOf, reported}
 use Rattle.pair_parts.specs.PairParts.{pairArrivals}
@@ -35,7 +34,7 @@ entryArrivals s e = reported (s .running) (entryProfile (s .cycle) e) cycles
 
 -- what of them goes to the exit that has v of the entry's flow units
 unfoldable pub pairOf : Segment → Entry → ℕ → List ℕ
-pairOf s e v = pairArrivals v (flowUnits (discharged (s .cycle) e)) (entryArrivals s e)
+pairOf s e v = pairArrivals v (dischargeUnits (s .cycle) e) (entryArrivals s e)
 
 -- what of it lands in a step
 unfoldable pub landsIn : Segment → Entry → ℕ → ℕ → ℕ

@@ -4,14 +4,14 @@ use native.Mathlib.Omega.{arith}
 use mathlib.Core.Path.{_≡_}
 use mathlib.Core.List.{List, [], _++_}
 use lib.ListN.{length, drop, getD}
+use Rattle.limits.specs.Limits.{leastCycle, mostCycle, mostRunning}
 use Rattle.movements.specs.Movements.{flowUnits}
 use Rattle.segment.specs.declared.Entry.{Entry}
 use Rattle.segment.specs.declared.Segment.{Segment}
-use Rattle.ranges.specs.Tests.{leastCycle, mostCycle}
 use Rattle.ranges.specs.Ranges.{Ranges, EntryRanges}
-use Rattle.metering.specs.Metering.{discharged}
+use Rattle.metering.specs.Metering.{dischargeUnits}
 use Rattle.entries.specs.Entries.{entryProfile}
-use Rattle.dispersion.specs.Dispersion.{runningLimit, arrivalTimeOf, reported}
+use Rattle.dispersion.specs.Dispersion.{arrivalTimeOf, reported}
 use Rattle.arrivals.specs.Arrivals.{runLimit, entryAdded}
 use Rattle.arrivals.specs.Arrivals as arrivals
 use Rattle.propagation.specs.Propagation.{Profiles, profiles, cycles, pairFlow}
@@ -23,15 +23,15 @@ spreadStep running units row q p =
     (reported running q 1 ++ drop (length q) (p .first))
     (reported running q cycles ++ drop (length q) (p .second))
 
-pub record SpreadAsks (running units : ℕ) (row q : List ℕ) (p : Profiles) : Type 0 where
-  pub time : running ≤ runningLimit
+pub record SpreadFits (running units : ℕ) (row q : List ℕ) (p : Profiles) : Type 0 where
+  pub time : running ≤ mostRunning
   pub first : length q ≤ length (p .first)
   pub second : length q ≤ length (p .second)
-  pub adds : arrivals.EntryRanges units (arrivalTimeOf running) row (reported running q cycles) (p .output)
+  pub adds : arrivals.EntryFits units (arrivalTimeOf running) row (reported running q cycles) (p .output)
 
 -- the same from an entry of the record
 unfoldable pub entryStep : (running c : ℕ) → Entry → List ℕ → Profiles → Profiles
-entryStep running c e row p = spreadStep running (flowUnits (discharged c e)) row (entryProfile c e) p
+entryStep running c e row p = spreadStep running (dischargeUnits c e) row (entryProfile c e) p
 
 -- profiles that are long enough
 pub record Room (c : ℕ) (p : Profiles) : Type 0 where
@@ -39,28 +39,28 @@ pub record Room (c : ℕ) (p : Profiles) : Type 0 where
   pub first : c ≤ length (p .first)
   pub second : c ≤ length (p .second)
 
--- lending keeps it
+-- profiles of the same lengths have the same room
 pub room-kept : {c : ℕ} (p p′ : Profiles) → Room c p → length (p′ .output) ≡ length (p .output) → length (p′ .first) ≡ length (p .first) →
     length (p′ .second) ≡ length (p .second) → Room c p′
 room-kept p p′ r eo ef es = record { output = omega (arith, r .output); first = omega (arith, r .first); second = omega (arith, r .second) }
 
-pub record EntryAsks (running c : ℕ) (e : Entry) (row : List ℕ) (p : Profiles) : Type 0 where
-  pub time : running ≤ runningLimit
+pub record FillEntryFits (running c : ℕ) (e : Entry) (row : List ℕ) (p : Profiles) : Type 0 where
+  pub time : running ≤ mostRunning
   pub cycle : (leastCycle ≤ c) × (c ≤ mostCycle)
   pub entry : EntryRanges c e
-  pub shares : (j : ℕ) → getD row j 0 ≤ flowUnits (discharged c e)
+  pub shares : (j : ℕ) → getD row j 0 ≤ dischargeUnits c e
   pub room : Room c p
   pub small : (k : ℕ) → k < 4 * c → getD (p .output) k 0 ≤ runLimit
 
 -- four rows of four, each within its entry's flow units
 pub record RowsFit (s : Segment) (rows : List (List ℕ)) : Type 0 where
   pub four : (i : ℕ) → i < 4 → length (getD rows i []) ≡ 4
-  pub left : (j : ℕ) → pairFlow rows 0 j ≤ flowUnits (discharged (s .cycle) (s .left))
-  pub through : (j : ℕ) → pairFlow rows 1 j ≤ flowUnits (discharged (s .cycle) (s .through))
-  pub right : (j : ℕ) → pairFlow rows 2 j ≤ flowUnits (discharged (s .cycle) (s .right))
+  pub left : (j : ℕ) → pairFlow rows 0 j ≤ dischargeUnits (s .cycle) (s .left)
+  pub through : (j : ℕ) → pairFlow rows 1 j ≤ dischargeUnits (s .cycle) (s .through)
+  pub right : (j : ℕ) → pairFlow rows 2 j ≤ dischargeUnits (s .cycle) (s .right)
   pub access : (j : ℕ) → pairFlow rows 3 j ≤ flowUnits (s .access)
 
-pub record FillAsks (s : Segment) (rows : List (List ℕ)) (p : Profiles) : Type 0 where
+pub record FillFits (s : Segment) (rows : List (List ℕ)) (p : Profiles) : Type 0 where
   pub ranges : Ranges s
   pub shares : RowsFit s rows
   pub room : Room (s .cycle) p

@@ -1,7 +1,7 @@
 // Filling the lent profiles of an accepted segment, once its pair flows are decided.
 ghost use mathlib.Core.Path.{_≡_};
 ghost use Rattle.propagation.specs.Propagation.{filledOf, profiles};
-ghost use Rattle.propagation.specs.Steps.{EntryAsks, FillAsks, SpreadAsks, entryStep, spreadStep};
+ghost use Rattle.propagation.specs.Steps.{FillEntryFits, FillFits, SpreadFits, entryStep, spreadStep};
 use segment::Entry;
 use segment::Segment;
 
@@ -18,7 +18,7 @@ fn spread(
     first: &mut [u32],
     second: &mut [u32],
 )
-    requires { ⌜ SpreadAsks running units row (now discharge) (profiles (now output) (now first) (now second)) ⌝ }
+    requires { ⌜ SpreadFits running units row (now discharge) (profiles (now output) (now first) (now second)) ⌝ }
     ensures { λ _. ⌜ profiles (now (output .exit)) (now (first .exit)) (now (second .exit)) ≡ spreadStep running units row (now (discharge .entry)) (profiles (now (output .entry)) (now (first .entry)) (now (second .entry))) ⌝ }
 {
     dispersion::alternate(running, discharge, first, second, CYCLES);
@@ -36,11 +36,11 @@ fn fill_entry(
     first: &mut [u32],
     second: &mut [u32],
 )
-    requires { ⌜ EntryAsks running cycle e row (profiles (now output) (now first) (now second)) ⌝ }
+    requires { ⌜ FillEntryFits running cycle e row (profiles (now output) (now first) (now second)) ⌝ }
     ensures { λ _. ⌜ profiles (now (output .exit)) (now (first .exit)) (now (second .exit)) ≡ entryStep running cycle e row (profiles (now (output .entry)) (now (first .entry)) (now (second .entry))) ⌝ }
 {
     let c = cycle as usize;
-    let mut discharge = [0u32; 240];
+    let mut discharge = [0u32; limits::CYCLE_ROOM];
     let o = entries::discharge_entry(cycle, e, &mut discharge[0..c]);
     spread(
         running,
@@ -61,7 +61,7 @@ pub fn fill(
     first: &mut [u32],
     second: &mut [u32],
 )
-    requires { ⌜ FillAsks s rows (profiles (now output) (now first) (now second)) ⌝ }
+    requires { ⌜ FillFits s rows (profiles (now output) (now first) (now second)) ⌝ }
     ensures { λ _. ⌜ profiles (now (output .exit)) (now (first .exit)) (now (second .exit)) ≡ filledOf s rows (profiles (now (output .entry)) (now (first .entry)) (now (second .entry))) ⌝ }
 {
     arrivals::begin(s.cycle as usize, rows[3], output);

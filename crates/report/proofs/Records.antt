@@ -6,17 +6,17 @@ use mathlib.Core.Path.{_≡_, refl, ap, sym, _∙_}
 use mathlib.Core.List.{List}
 use lib.ListN.{length, take, drop, getD}
 use borrow.Author.Tests.{lt-ltb, le-ltb}
+use Rattle.limits.specs.Limits.{mostCycle}
 use Rattle.octets.specs.Octets.{word2, word4}
 use Rattle.text.specs.Text.{cursor, put, Wrote}
 use Rattle.text.specs.Appending.{put-append, put-nil}
 use Rattle.segment.specs.Layout.{size, cycleAt}
 use Rattle.segment.specs.Segment.{segmentOf}
-use Rattle.ranges.specs.Tests.{mostCycle}
 use Rattle.propagation.specs.Propagation.{Profiles}
 use Rattle.propagation.specs.Steps.{Room}
-use Rattle.outcome.specs.declared.Working.{Working}
+use Rattle.working_outcome.specs.declared.Working.{Working}
 use Rattle.working.specs.Working.{Called, Works, callOf}
-use Rattle.archive_format.specs.Archive.{decode, segments, nextAt, filedFrom, runs}
+use Rattle.archive_format.specs.Archive.{decode, firstEdition, nextAt, filedFrom, runs}
 use Rattle.archive_format.specs.Reading.{Ran, ran}
 use Rattle.archive_open.specs.declared.Opened.the-variants.{Invalid, Valid}
 use Rattle.archive_open.specs.Opening.{openedOf, invalid, Held, held, held-run, held-fits, held-filed}
@@ -83,14 +83,14 @@ module _ {l : List ℕ} {count : ℕ} {b₀ : List ℕ} {at : ℕ} {b : List ℕ
 -- ---- the archive
 
 module _ (l : List ℕ) {b : List ℕ} {at : ℕ} {b′ : List ℕ} {p : ℕ} where
-  pub archive-refused : (k : ℕ) → openedOf (decode segments l) ≡ Invalid k → Wrote b at (archiveRefusedLine k) b′ p → Wrote b at (archiveText l) b′ p
+  pub archive-refused : (k : ℕ) → openedOf (decode firstEdition l) ≡ Invalid k → Wrote b at (archiveRefusedLine k) b′ p → Wrote b at (archiveText l) b′ p
   unfolding archiveText
-  archive-refused k o v = rw (invalid segments l k o) v
+  archive-refused k o v = rw (invalid firstEdition l k o) v
 
-  pub archive-read : {count t last : ℕ} → openedOf (decode segments l) ≡ Valid count t last
+  pub archive-read : {count t last : ℕ} → openedOf (decode firstEdition l) ≡ Valid count t last
       → Wrote b at (recordsText (filedFrom size count l 0)) b′ p → Wrote b at (archiveText l) b′ p
   unfolding archiveText
-  archive-read o v = rw (held-filed segments l (held o)) v
+  archive-read o v = rw (held-filed firstEdition l (held o)) v
 
   pub input-long : inputLimit < length l → Wrote b at (archiveRefusedLine 2) b′ p → Wrote b at (inputText l) b′ p
   unfolding inputText
@@ -100,7 +100,7 @@ module _ (l : List ℕ) {b : List ℕ} {at : ℕ} {b′ : List ℕ} {p : ℕ} wh
   unfolding inputText
   input-short h v = rw (le-ltb _ _ h) v
 
-pub archive-runs : (l : List ℕ) {count t last : ℕ} → openedOf (decode segments l) ≡ Valid count t last → Runs count l
+pub archive-runs : (l : List ℕ) {count t last : ℕ} → openedOf (decode firstEdition l) ≡ Valid count t last → Runs count l
 archive-runs l {count} {t} o =
-    let h : Held segments l count t _ = held o in
-    record { trailer = t; within = omega (arith, held-fits segments l h); run = held-run segments l h }
+    let h : Held firstEdition l count t _ = held o in
+    record { trailer = t; within = omega (arith, held-fits firstEdition l h); run = held-run firstEdition l h }

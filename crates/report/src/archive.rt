@@ -1,16 +1,16 @@
 // The records of an archive, each worked from its own bytes in one pass. The work profiles are the caller's, so that they are made once.
 ghost use mathlib.Core.Path.{_≡_};
 ghost use lib.ListN.{length};
+ghost use Rattle.limits.specs.Limits.{mostCycle};
 ghost use Rattle.text.specs.Text.{Wrote};
 ghost use Rattle.segment.specs.Layout.{size};
-ghost use Rattle.ranges.specs.Tests.{mostCycle};
 ghost use Rattle.propagation.specs.Propagation.{profiles};
 ghost use Rattle.propagation.specs.Steps.{Room};
 ghost use Rattle.archive_format.specs.Archive.{filedFrom};
 ghost use Rattle.report.specs.Report.{archiveText, inputText, recordsText, segmentText};
 ghost use Rattle.report.specs.Running.{Runs};
 use crate::INPUT_LIMIT;
-use archive_format::SEGMENTS;
+use archive_format::FIRST_EDITION;
 use archive_open::Opened;
 use archive_open::open;
 
@@ -67,7 +67,7 @@ fn archive_text(
     requires { ⌜ Room mostCycle (profiles (now output) (now first) (now second)) ⌝ }
     ensures { λ r. ⌜ Wrote (now (text .entry)) at (archiveText (now (archive .entry))) (now (text .exit)) r ⌝ }
 {
-    let opened = open(SEGMENTS, archive);
+    let opened = open(FIRST_EDITION, archive);
     match opened {
         Opened::Invalid(k) => report_lines::archive_refused_line(text, at, k),
         Opened::Valid {

@@ -3,8 +3,8 @@ use Prim.Native.Nat.{ℕ}
 use mathlib.Core.Path.{_≡_, ap, sym, _∙_}
 use mathlib.Core.List.{List}
 use Rattle.text.specs.Text.{cursor, put, Wrote}
-use Rattle.outcome.specs.declared.Outcome.{Outcome}
-use Rattle.outcome.specs.declared.Working.{Working}
+use Rattle.working_outcome.specs.declared.Outcome.{Outcome}
+use Rattle.working_outcome.specs.declared.Working.{Working}
 use Rattle.report_record.specs.Record.{textBy, recordText}
 
 pub by-outcome : (number cycle : ℕ) (w : Working) (o : Outcome) → w .outcome ≡ o → {b : List ℕ} {at : ℕ} {b′ : List ℕ} {p : ℕ}

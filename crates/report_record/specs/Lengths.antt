@@ -2,9 +2,9 @@
 use Prim.Native.Nat.{ℕ, _≤_}
 use native.Mathlib.Omega.{arith}
 use lib.ListN.{length, length-append}
-use Rattle.outcome.specs.declared.Outcome.{Outcome}
-use Rattle.outcome.specs.declared.Outcome.the-variants.{Worked, Refused, Unsettled}
-use Rattle.outcome.specs.declared.Working.{Working}
+use Rattle.working_outcome.specs.declared.Outcome.{Outcome}
+use Rattle.working_outcome.specs.declared.Outcome.the-variants.{Worked, Refused, Unsettled}
+use Rattle.working_outcome.specs.declared.Working.{Working}
 use Rattle.report_lines.specs.Lines.{exitLabel, letterL, letterT, letterR}
 use Rattle.report_lines.specs.Lengths.{record-line, exit-line, access-line, blocked-line, refused-line}
 use Rattle.report_record.specs.Record.{workedText, textBy, recordText}

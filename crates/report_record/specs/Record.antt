@@ -1,10 +1,10 @@
 -- What the program prints for a record, from its number, its cycle and its working.
 use Prim.Native.Nat.{ℕ}
 use mathlib.Core.List.{List, _++_}
-use Rattle.outcome.specs.declared.Outcome.{Outcome}
-use Rattle.outcome.specs.declared.Outcome.the-variants.{Worked, Refused, Unsettled}
-use Rattle.outcome.specs.declared.Working.{Working}
-use Rattle.outcome.specs.Outcome.{numberOf}
+use Rattle.working_outcome.specs.declared.Outcome.{Outcome}
+use Rattle.working_outcome.specs.declared.Outcome.the-variants.{Worked, Refused, Unsettled}
+use Rattle.working_outcome.specs.declared.Working.{Working}
+use Rattle.working_outcome.specs.Outcome.{numberOf}
 use Rattle.report_lines.specs.Lines.{exitLabel, letterL, letterT, letterR, recordLine, exitLine, accessLine, blockedLine, refusedLine}
 
 -- six lines, exits in order

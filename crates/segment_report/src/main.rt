@@ -31,7 +31,7 @@ fn write_answer(input: &[u8], text: &[u8], answer: Answer)
     requires { ⌜ Text (now input) (now text) answer ⌝ }
 {
     match answer {
-        Answer::Is(n) => write_text(input, &text[..n]),
+        Answer::Value(n) => write_text(input, &text[..n]),
         Answer::Refused(_) => {}
     }
 }

@@ -17,27 +17,27 @@ use Rattle.validation.specs.Accepting.{checked-refused, checked-valid, accept-p
 use Rattle.ranges.specs.Ranges.{Ranges}
 use Rattle.validation.specs.Accepted.{Accepted}
 use Rattle.movements.specs.declared.Counts.{Counts}
-use Rattle.flows.specs.Flows.{zero64}
-use Rattle.metering.specs.Metering.{dischargesOf}
-use Rattle.shares.specs.declared.Verdict.{Verdict}
-use Rattle.shares.specs.declared.Sharing.{Sharing}
-use Rattle.shares.specs.Sharing.{Told, told, numberOf, lastSumOf, sharing}
+use Rattle.balance_flows.specs.Flows.{zero64}
+use Rattle.metering.specs.Metering.{dischargeVolumes}
+use Rattle.balance_decision.specs.declared.Verdict.{Verdict}
+use Rattle.balance_decision.specs.declared.Sharing.{Sharing}
+use Rattle.balance_decision.specs.Sharing.{Told, told, numberOf, lastSumOf, sharing}
 use Rattle.propagation.specs.Propagation.{Profiles, filledOf}
-use Rattle.propagation.specs.Steps.{Room, FillAsks}
-use Rattle.demand3.specs.Demand3.{Demand3}
-use Rattle.demand3.specs.Holds.{demand-3}
-use Rattle.outcome.specs.declared.Outcome.{Outcome}
-use Rattle.outcome.specs.declared.Outcome.the-variants.{Worked, Refused, Unsettled}
-use Rattle.outcome.specs.declared.Working.{Working}
-use Rattle.outcome.specs.Outcome.{outcomeOf, refusedWith, workedOf}
+use Rattle.propagation.specs.Steps.{Room, FillFits}
+use Rattle.accuracy.specs.Accuracy.{Accurate}
+use Rattle.accuracy.specs.Holds.{filled-accurate}
+use Rattle.working_outcome.specs.declared.Outcome.{Outcome}
+use Rattle.working_outcome.specs.declared.Outcome.the-variants.{Worked, Refused, Unsettled}
+use Rattle.working_outcome.specs.declared.Working.{Working}
+use Rattle.working_outcome.specs.Outcome.{outcomeOf, refusedWith, workedOf}
 use Rattle.working.specs.Working.{acceptOf, sharingOf, Called, called, bySharing, callOf, Works}
-use Rattle.outcome.specs.Filled.{Filled}
+use Rattle.working_outcome.specs.Filled.{Filled}
 use Rattle.working.proofs.Rows.{rows-fit}
 
 -- ---- what the sharing decides
 
 -- what the sharing tells of a record's volumes
-module _ (s : Segment) (o : Counts) (r : Sharing) (eo : o ≡ dischargesOf s) (e : told r ≡ sharing o (s .exits) (s .seeds)) where
+module _ (s : Segment) (o : Counts) (r : Sharing) (eo : o ≡ dischargeVolumes s) (e : told r ≡ sharing o (s .exits) (s .seeds)) where
   all-told : told r ≡ sharingOf s
   unfolding sharingOf
   all-told = e ∙ rw eo
@@ -63,7 +63,7 @@ module _ (s : Segment) (p : Profiles) where
       called w p ≡ bySharing s (sharingOf s) p
   shares-unsettled x e f ew = ap (λ (v : Working). called v p) ew ∙ rw (e, f)
 
-  pub fill-asks : Ranges s → Room (s .cycle) p → {rows : List (List ℕ)} → sharingOf s .number ≡ 0 → rows ≡ sharingOf s .pairs → FillAsks s rows p
+  pub fill-asks : Ranges s → Room (s .cycle) p → {rows : List (List ℕ)} → sharingOf s .number ≡ 0 → rows ≡ sharingOf s .pairs → FillFits s rows p
   fill-asks r m {rows} e q = record { ranges = r; shares = rw q (rows-fit s e); room = m }
 
   pub filled : Ranges s → {rows pairs : List (List ℕ)} → rows ≡ pairs → (p′ : Profiles) → p′ ≡ filledOf s rows p → Filled s pairs (p′ .output)
@@ -102,14 +102,14 @@ module _ (l : List ℕ) (p : Profiles) where
   worked-demand : (s : Segment) → accepts ≡ ok s → (t : Bool) → eqb (sharingOf s .number) 0 ≡ t → (w : Working) (p′ : Profiles) →
       called w p′ ≡ cond t (called (workedOf s (sharingOf s)) (filledOf s (sharingOf s .pairs) p))
       (called (refusedWith (cond t (Worked (sharingOf s .sum)) (cond (eqb (sharingOf s .number) 15) (Unsettled (sharingOf s .sum)) (Refused (sharingOf s .number))))) p) →
-      (x : Float) → w .outcome ≡ Worked x → Demand3 (segmentOf l) (w .pairs .rows) p′
+      (x : Float) → w .outcome ≡ Worked x → Accurate (segmentOf l) (w .pairs .rows) p′
   unfolding workedOf
   worked-demand s a true e w p′ q x o =
       let z = eqb-true (sharingOf s .number) 0 e in
       let rows : w .pairs .rows ≡ sharingOf s .pairs = ap (λ (c : Called). c .answer .pairs .rows) q in
       let left : p′ ≡ filledOf s (sharingOf s .pairs) p = ap (λ (c : Called). c .after) q in
-      subst (λ (u : Segment). Demand3 u (w .pairs .rows) p′) (passed s a .0 .is)
-      (rw (rows, left) (demand-3 s (sharingOf s .pairs) p (rows-fit s z)))
+      subst (λ (u : Segment). Accurate u (w .pairs .rows) p′) (passed s a .0 .is)
+      (rw (rows, left) (filled-accurate s (sharingOf s .pairs) p (rows-fit s z)))
   worked-demand s a false e w p′ q x o =
       absurd (never (eqb (sharingOf s .number) 15) (sharingOf s .sum) x (sharingOf s .number) (sym (ap (λ (c : Called). c .answer .outcome) q) ∙ o))
 

@@ -7,23 +7,23 @@ use lib.ListN.{length, getD}
 use Rattle.lists.specs.Lists.{sum}
 use Rattle.movements.specs.declared.Counts.{Counts}
 use Rattle.movements.specs.Movements.{flowUnits}
-use Rattle.flows.specs.declared.Flows.{Flows}
-use Rattle.flows.specs.declared.FlowTable.{FlowTable}
+use Rattle.balance_flows.specs.declared.Flows.{Flows}
+use Rattle.balance_flows.specs.declared.FlowTable.{FlowTable}
 use Rattle.segment.specs.declared.Segment.{Segment}
 use Rattle.ranges.specs.Ranges.{Ranges}
-use Rattle.metering.specs.Metering.{discharged, dischargesOf, discharged-volume}
-use Rattle.pair_shares.specs.Shares.{WithinLimit, pairRow, pairRows, row-adds}
-use Rattle.shares.specs.Meaning.{from-cells}
+use Rattle.metering.specs.Metering.{dischargeVolumes, discharge-volume-entry, dischargeUnits}
+use Rattle.balance_pairs.specs.Pairs.{WithinLimit, pairRow, pairRows, row-adds}
+use Rattle.balance_decision.specs.Meaning.{from-cells}
 use Rattle.propagation.specs.Steps.{RowsFit}
 use Rattle.working.specs.Working.{sharingOf}
 
-pub limits : (s : Segment) (o : Counts) → Ranges s → o ≡ dischargesOf s → WithinLimit o
-unfolding dischargesOf
+pub limits : (s : Segment) (o : Counts) → Ranges s → o ≡ dischargeVolumes s → WithinLimit o
+unfolding dischargeVolumes
 limits s o r e =
     rw e (
-      omega (arith, discharged-volume (s .cycle) (s .left), r .left .volume),
-      omega (arith, discharged-volume (s .cycle) (s .through), r .through .volume),
-      omega (arith, discharged-volume (s .cycle) (s .right), r .right .volume),
+      omega (arith, discharge-volume-entry (s .cycle) (s .left), r .left .volume),
+      omega (arith, discharge-volume-entry (s .cycle) (s .through), r .through .volume),
+      omega (arith, discharge-volume-entry (s .cycle) (s .right), r .right .volume),
       r .access,
     )
 
@@ -46,15 +46,15 @@ rows-four cells o (suc (suc (suc zero))) h = refl
 rows-four cells o (suc (suc (suc (suc i)))) h = absurd (omega arith)
 
 pub rows-fit : (s : Segment) → sharingOf s .number ≡ 0 → RowsFit s (sharingOf s .pairs)
-unfolding sharingOf dischargesOf pairRows
+unfolding sharingOf dischargeVolumes pairRows
 rows-fit s e =
-    let f = from-cells (dischargesOf s) (s .exits) (s .seeds) e in
+    let f = from-cells (dischargeVolumes s) (s .exits) (s .seeds) e in
     let c = f .cells in
     rw (f .is)
     (record {
-      four = rows-four c (dischargesOf s);
-      left = row-le (c .left) (flowUnits (discharged (s .cycle) (s .left)));
-      through = row-le (c .through) (flowUnits (discharged (s .cycle) (s .through)));
-      right = row-le (c .right) (flowUnits (discharged (s .cycle) (s .right)));
+      four = rows-four c (dischargeVolumes s);
+      left = row-le (c .left) (dischargeUnits (s .cycle) (s .left));
+      through = row-le (c .through) (dischargeUnits (s .cycle) (s .through));
+      right = row-le (c .right) (dischargeUnits (s .cycle) (s .right));
       access = row-le (c .access) (flowUnits (s .access));
     })

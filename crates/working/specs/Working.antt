@@ -10,14 +10,14 @@ use Rattle.refusal.specs.Refusal.{Or, refused, ok}
 use Rattle.segment.specs.declared.Segment.{Segment}
 use Rattle.segment.specs.Segment.{segmentOf}
 use Rattle.validation.specs.Accepting.{acceptWith}
-use Rattle.flows.specs.Flows.{zero64}
-use Rattle.metering.specs.Metering.{dischargesOf}
-use Rattle.shares.specs.Sharing.{Told, sharing}
+use Rattle.balance_flows.specs.Flows.{zero64}
+use Rattle.metering.specs.Metering.{dischargeVolumes}
+use Rattle.balance_decision.specs.Sharing.{Told, sharing}
 use Rattle.propagation.specs.Propagation.{Profiles, filledOf}
-use Rattle.demand3.specs.Demand3.{Demand3}
-use Rattle.outcome.specs.declared.Outcome.the-variants.{Worked}
-use Rattle.outcome.specs.declared.Working.{Working}
-use Rattle.outcome.specs.Outcome.{outcomeOf, refusedWith, workedOf}
+use Rattle.accuracy.specs.Accuracy.{Accurate}
+use Rattle.working_outcome.specs.declared.Outcome.the-variants.{Worked}
+use Rattle.working_outcome.specs.declared.Working.{Working}
+use Rattle.working_outcome.specs.Outcome.{outcomeOf, refusedWith, workedOf}
 
 -- the lengths of lent profiles that have room for a record's cycle
 abbrev pub fits : (output first second : ℕ) → Segment → Bool
@@ -29,7 +29,7 @@ acceptOf l output first second = acceptWith l (fits output first second)
 
 -- the place volumes: the sixteen pair flows, or 13, 14, 15
 unfoldable pub sharingOf : Segment → Told
-sharingOf s = sharing (dischargesOf s) (s .exits) (s .seeds)
+sharingOf s = sharing (dischargeVolumes s) (s .exits) (s .seeds)
 
 -- refused for its volumes
 abbrev pub unworkedOf : Told → Working
@@ -59,4 +59,4 @@ callOf l p = byRecord (acceptOf l (length (p .output)) (length (p .first)) (leng
 -- the call as called: its answer and all three profiles, and demand 3 of every record and all profiles that it accepts
 pub record Works (l : List ℕ) (p : Profiles) (r : Working) (p′ : Profiles) : Type 0 where
   pub is : called r p′ ≡ callOf l p
-  pub demand : (x : Float) → r .outcome ≡ Worked x → Demand3 (segmentOf l) (r .pairs .rows) p′
+  pub demand : (x : Float) → r .outcome ≡ Worked x → Accurate (segmentOf l) (r .pairs .rows) p′

@@ -6,11 +6,11 @@ ghost use Rattle.validation.specs.Validation.{checkedOf};
 ghost use Rattle.propagation.specs.Propagation.{profiles};
 ghost use Rattle.propagation.specs.Steps.{Room};
 ghost use Rattle.working.specs.Working.{Works, acceptOf, bySharing, called, sharingOf};
-use outcome::Outcome;
-use outcome::Working;
+use balance_decision::Verdict;
 use segment::Segment;
-use shares::Verdict;
 use validation::Checked;
+use working_outcome::Outcome;
+use working_outcome::Working;
 
 // The refusals of the record and of the lent profiles' lengths.
 fn accept(bytes: &[u8], output: usize, first: usize, second: usize) -> Checked
@@ -35,15 +35,15 @@ fn work_accepted(s: Segment, output: &mut [u32], first: &mut [u32], second: &mut
     requires { ⌜ Ranges s × Room (s .cycle) (profiles (now output) (now first) (now second)) ⌝ }
     ensures { λ r. ⌜ called r (profiles (now (output .exit)) (now (first .exit)) (now (second .exit))) ≡ bySharing s (sharingOf s) (profiles (now (output .entry)) (now (first .entry)) (now (second .entry))) ⌝ }
 {
-    let sharing = shares::decide(metering::discharges(s), s.exits, s.seeds);
+    let sharing = balance_decision::decide(metering::discharge_volumes(s), s.exits, s.seeds);
     let verdict = sharing.verdict;
     match verdict {
-        Verdict::NoVolume => outcome::refused(Outcome::Refused(13)),
-        Verdict::Unserved => outcome::refused(Outcome::Refused(14)),
-        Verdict::Unsettled(sum) => outcome::refused(Outcome::Unsettled(sum)),
+        Verdict::NoVolume => working_outcome::refused(Outcome::Refused(13)),
+        Verdict::Unserved => working_outcome::refused(Outcome::Refused(14)),
+        Verdict::Unsettled(sum) => working_outcome::refused(Outcome::Unsettled(sum)),
         Verdict::Shared(sum) => {
             propagation::fill(s, pair_flows::rows_of(sharing.pairs), output, first, second);
-            outcome::worked(s, sum, sharing.rounds, sharing.pairs, &output[..])
+            working_outcome::worked(s, sum, sharing.rounds, sharing.pairs, &output[..])
         }
     }
 }
@@ -55,7 +55,7 @@ pub fn work(bytes: &[u8], output: &mut [u32], first: &mut [u32], second: &mut [u
 {
     let accepted = accept(bytes, output.len(), first.len(), second.len());
     match accepted {
-        Checked::Refused(n) => outcome::refused(Outcome::Refused(n)),
+        Checked::Refused(n) => working_outcome::refused(Outcome::Refused(n)),
         Checked::Valid(s) => work_accepted(s, output, first, second),
     }
 }

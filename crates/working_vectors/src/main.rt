@@ -2,8 +2,8 @@
 ghost use Prim.Native.Nat.{_+_, _*_, _≤_};
 ghost use lib.ListN.{length};
 use exit_figures::ExitFigures;
-use outcome::Outcome;
-use outcome::Working;
+use working_outcome::Outcome;
+use working_outcome::Working;
 
 // The expected numbers of a case, after its record and the profiles' lengths: number, last sum, platoon arrival time, rounds, pair flows,
 // three exits' figures, access total, blocked steps; then the three profiles.

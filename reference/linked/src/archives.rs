@@ -9,7 +9,7 @@ use reference::samples::{busy, put_u32, random_record};
 use reference::vectors::archive::write;
 use reference::vectors::buffer_before;
 
-use crate::calls::{self, TitleTold, ValueTold};
+use crate::calls::{self, TitleAnswer, ValueAnswer};
 use crate::same::{same, same_list, Same, Tally};
 
 type Bytes = [u8; RECORD_BYTES];
@@ -119,7 +119,7 @@ fn told(result: Result<usize, u32>) -> (u32, usize) {
     }
 }
 
-fn same_value(what: &str, library: ValueTold, result: Result<usize, u32>) -> Same {
+fn same_value(what: &str, library: ValueAnswer, result: Result<usize, u32>) -> Same {
     let (number, value) = told(result);
     same(&format!("{what}: number"), library.number, number)?;
     same(what, library.value, value)
@@ -169,7 +169,7 @@ fn compare_finding(archive: &[u8], numbers: &[u32], tally: &mut Tally) -> Same {
 }
 
 /// The reference hands back a part of the archive: its place is that of its first byte.
-fn same_title(what: &str, library: TitleTold, archive: &[u8], number: u32) -> Same {
+fn same_title(what: &str, library: TitleAnswer, archive: &[u8], number: u32) -> Same {
     let expected = title(archive, number);
     let place = expected.as_ptr() as usize - archive.as_ptr() as usize;
     same(what, library.number, told(find(archive, number)).0)?;

@@ -13,7 +13,7 @@ pub struct ExitFigures {
 
 #[repr(C)]
 #[derive(Clone, Copy)]
-pub struct WorkTold {
+pub struct WorkAnswer {
     pub number: u32,
     pub rounds: u32,
     pub sum: f64,
@@ -28,7 +28,7 @@ pub struct WorkTold {
 
 #[repr(C)]
 #[derive(Clone, Copy)]
-pub struct VolumesTold {
+pub struct VolumesAnswer {
     pub number: u32,
     pub left: u32,
     pub through: u32,
@@ -37,21 +37,21 @@ pub struct VolumesTold {
 
 #[repr(C)]
 #[derive(Clone, Copy)]
-pub struct ValueTold {
+pub struct ValueAnswer {
     pub number: u32,
     pub value: usize,
 }
 
 #[repr(C)]
 #[derive(Clone, Copy)]
-pub struct TitleTold {
+pub struct TitleAnswer {
     pub number: u32,
     pub place: usize,
     pub length: usize,
 }
 
 mod library {
-    use super::{TitleTold, ValueTold, VolumesTold, WorkTold};
+    use super::{TitleAnswer, ValueAnswer, VolumesAnswer, WorkAnswer};
 
     extern "C" {
         pub fn segment_work(
@@ -63,17 +63,17 @@ mod library {
             first_length: usize,
             second: *mut u32,
             second_length: usize,
-        ) -> WorkTold;
+        ) -> WorkAnswer;
         pub fn segment_discharge(
             bytes: *const u8,
             bytes_length: usize,
             profile: *mut u32,
             profile_length: usize,
-        ) -> VolumesTold;
-        pub fn archive_count(archive: *const u8, archive_length: usize) -> ValueTold;
-        pub fn archive_place(archive: *const u8, archive_length: usize, i: usize) -> ValueTold;
-        pub fn archive_find(archive: *const u8, archive_length: usize, number: u32) -> ValueTold;
-        pub fn archive_title(archive: *const u8, archive_length: usize, number: u32) -> TitleTold;
+        ) -> VolumesAnswer;
+        pub fn archive_count(archive: *const u8, archive_length: usize) -> ValueAnswer;
+        pub fn archive_place(archive: *const u8, archive_length: usize, i: usize) -> ValueAnswer;
+        pub fn archive_find(archive: *const u8, archive_length: usize, number: u32) -> ValueAnswer;
+        pub fn archive_title(archive: *const u8, archive_length: usize, number: u32) -> TitleAnswer;
         pub fn archive_add(
             archive: *const u8,
             archive_length: usize,
@@ -83,13 +83,13 @@ mod library {
             title_length: usize,
             buffer: *mut u8,
             buffer_length: usize,
-        ) -> ValueTold;
+        ) -> ValueAnswer;
         pub fn archive_report(
             archive: *const u8,
             archive_length: usize,
             text: *mut u8,
             text_length: usize,
-        ) -> ValueTold;
+        ) -> ValueAnswer;
     }
 }
 
@@ -98,7 +98,7 @@ pub fn segment_work(
     output: &mut [u32],
     first: &mut [u32],
     second: &mut [u32],
-) -> WorkTold {
+) -> WorkAnswer {
     unsafe {
         library::segment_work(
             bytes.as_ptr(),
@@ -113,7 +113,7 @@ pub fn segment_work(
     }
 }
 
-pub fn segment_discharge(bytes: &[u8], profile: &mut [u32]) -> VolumesTold {
+pub fn segment_discharge(bytes: &[u8], profile: &mut [u32]) -> VolumesAnswer {
     unsafe {
         library::segment_discharge(
             bytes.as_ptr(),
@@ -124,23 +124,23 @@ pub fn segment_discharge(bytes: &[u8], profile: &mut [u32]) -> VolumesTold {
     }
 }
 
-pub fn archive_count(archive: &[u8]) -> ValueTold {
+pub fn archive_count(archive: &[u8]) -> ValueAnswer {
     unsafe { library::archive_count(archive.as_ptr(), archive.len()) }
 }
 
-pub fn archive_place(archive: &[u8], i: usize) -> ValueTold {
+pub fn archive_place(archive: &[u8], i: usize) -> ValueAnswer {
     unsafe { library::archive_place(archive.as_ptr(), archive.len(), i) }
 }
 
-pub fn archive_find(archive: &[u8], number: u32) -> ValueTold {
+pub fn archive_find(archive: &[u8], number: u32) -> ValueAnswer {
     unsafe { library::archive_find(archive.as_ptr(), archive.len(), number) }
 }
 
-pub fn archive_title(archive: &[u8], number: u32) -> TitleTold {
+pub fn archive_title(archive: &[u8], number: u32) -> TitleAnswer {
     unsafe { library::archive_title(archive.as_ptr(), archive.len(), number) }
 }
 
-pub fn archive_add(archive: &[u8], bytes: &[u8], title: &[u8], buffer: &mut [u8]) -> ValueTold {
+pub fn archive_add(archive: &[u8], bytes: &[u8], title: &[u8], buffer: &mut [u8]) -> ValueAnswer {
     unsafe {
         library::archive_add(
             archive.as_ptr(),
@@ -155,7 +155,7 @@ pub fn archive_add(archive: &[u8], bytes: &[u8], title: &[u8], buffer: &mut [u8]
     }
 }
 
-pub fn archive_report(archive: &[u8], text: &mut [u8]) -> ValueTold {
+pub fn archive_report(archive: &[u8], text: &mut [u8]) -> ValueAnswer {
     unsafe {
         library::archive_report(
             archive.as_ptr(),

@@ -14,7 +14,7 @@ use reference::vectors::faults::{fault_pairs, faults};
 use reference::vectors::{profile_before, FIRST_BEFORE, OUTPUT_BEFORE, SECOND_BEFORE};
 use reference::working::work;
 
-use crate::calls::{self, WorkTold};
+use crate::calls::{self, WorkAnswer};
 use crate::same::{bits, same_list, Same, Tally};
 
 type Bytes = [u8; RECORD_BYTES];
@@ -166,14 +166,14 @@ fn compare_working(record: &[u8], lengths: Lengths, tally: &mut Tally) -> Same {
 }
 
 /// The reference's answer as the library tells it: all 0 where refused, but 15 with its last sum.
-fn expected_working(record: &[u8], [output, first, second]: [&mut Vec<u32>; 3]) -> WorkTold {
+fn expected_working(record: &[u8], [output, first, second]: [&mut Vec<u32>; 3]) -> WorkAnswer {
     let figures = |x: &ExitFigures| calls::ExitFigures {
         total: x.total,
         green: x.green,
         permille: x.permille,
     };
     match work(record, output, first, second) {
-        Ok(working) => WorkTold {
+        Ok(working) => WorkAnswer {
             number: 0,
             rounds: working.rounds,
             sum: working.last_sum,
@@ -185,7 +185,7 @@ fn expected_working(record: &[u8], [output, first, second]: [&mut Vec<u32>; 3]) 
             right: figures(&working.exits[2]),
             access: working.access_total,
         },
-        Err(refused) => WorkTold {
+        Err(refused) => WorkAnswer {
             number: refused.number,
             sum: refused.last_sum,
             ..REFUSED
@@ -199,7 +199,7 @@ const NO_FIGURES: calls::ExitFigures = calls::ExitFigures {
     permille: 0,
 };
 
-const REFUSED: WorkTold = WorkTold {
+const REFUSED: WorkAnswer = WorkAnswer {
     number: 0,
     rounds: 0,
     sum: 0.0,
@@ -213,7 +213,7 @@ const REFUSED: WorkTold = WorkTold {
 };
 
 /// Number, rounds, last sum's bits, arrival, blocked, sixteen pair flows, three exits, access total.
-fn numbers(told: &WorkTold) -> Vec<u64> {
+fn numbers(told: &WorkAnswer) -> Vec<u64> {
     let mut numbers = vec![
         u64::from(told.number),
         u64::from(told.rounds),

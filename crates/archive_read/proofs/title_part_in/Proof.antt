@@ -4,7 +4,7 @@ use native.Mathlib.Omega.{arith}
 use mathlib.Core.Path.{_≡_, sym, _∙_}
 use lib.ListN.{length}
 use borrow.Author.Needs.{needs}
-use Rattle.archive_format.specs.declared.Answer.the-variants.{Is}
+use Rattle.archive_format.specs.declared.Answer.the-variants.{Value}
 use Rattle.archive_format.specs.Archive.{nextAt, answerOf, findOf}
 use Rattle.archive_read.proofs.Answers.{found-within, part-found, part-none}
 use Rattle.archive_read.proofs.title_part_in.Statement.{statement}
@@ -13,7 +13,7 @@ use Rattle.archive_read.proofs.title_part_in.Tie as tie
 abbrev start : tie.After-f2 → tie.Start
 start c = c .before .before .before .before
 
-found : (c : tie.After-f2) → let a = start c .args in answerOf (findOf (a .e) (a .s .now) (a .number)) ≡ Is (c .f2 .given .0 .0)
+found : (c : tie.After-f2) → let a = start c .args in answerOf (findOf (a .e) (a .s .now) (a .number)) ≡ Value (c .f2 .given .0 .0)
 found c = sym (c .before .before .find-in .ensures) ∙ c .f2 .given .1
 
 here : (c : tie.After-f2) → let a = start c .args in nextAt (a .e .size) (a .s .now) (c .f2 .given .0 .0) ≤ length (a .s .now)

@@ -1,6 +1,6 @@
 use mathlib.Core.Bool.{true, false}
 use mathlib.Core.Path.{_≡_, sym, _∙_}
-use Rattle.flows.specs.Flows.{tableFinite}
+use Rattle.balance_flows.specs.Flows.{tableFinite}
 use Rattle.balance.specs.Settling.{closed}
 use Rattle.balance.proofs.closed.Statement.{statement}
 use Rattle.balance.proofs.closed.Tie as tie

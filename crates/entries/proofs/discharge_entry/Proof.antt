@@ -2,19 +2,19 @@
 use native.Mathlib.Omega.{arith}
 use mathlib.Core.Path.{_∙_}
 use Rattle.entries.specs.Entries.{entryProfile}
-use Rattle.entries.specs.Laws.{discharged-le}
+use Rattle.entries.specs.Laws.{discharge-volume-le}
 use borrow.Author.Needs.{needs}
 use Rattle.entries.proofs.discharge_entry.Statement.{statement}
 use Rattle.entries.proofs.discharge_entry.Tie as tie
 
-discharged-requires : tie.Need-discharged-requires
-discharged-requires c κs = search needs
+discharge-volume-requires : tie.Need-discharge-volume-requires
+discharge-volume-requires c κs = search needs
 
 discharge-requires : tie.Need-discharge-requires
 discharge-requires c κs =
     let start = c .before .before .before in
     let ranges = start .pre .3 in
-    let small = discharged-le (start .args .c) _ _ ranges (c .before .discharged .ensures) in
+    let small = discharge-volume-le (start .args .c) _ _ ranges (c .before .discharge-volume .ensures) in
     ((omega arith, rw (start .pre .2) (ranges .green)), (omega (arith, ranges .saturation, ranges .volume), omega (arith, ranges .arriving), small))
 
 same-length : tie.Need-same-length
@@ -26,7 +26,7 @@ returns c =
     let at-discharge = c .before .before in
     let at-discharged = at-discharge .before .before in
     let start = at-discharged .before .before in
-    (at-discharged .discharged .ensures, at-discharge .discharge .ensures ∙ rw (start .pre .2, at-discharged .discharged .ensures))
+    (at-discharged .discharge-volume .ensures, at-discharge .discharge .ensures ∙ rw (start .pre .2, at-discharged .discharge-volume .ensures))
 
 pub discharge-entry-spec : {M : Type 1} → statement M
-discharge-entry-spec = tie.close (tie.spec discharged-requires discharge-requires same-length returns)
+discharge-entry-spec = tie.close (tie.spec discharge-volume-requires discharge-requires same-length returns)

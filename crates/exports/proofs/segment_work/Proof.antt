@@ -1,4 +1,4 @@
-use Rattle.exports.specs.Laws.{works-told}
+use Rattle.exports.specs.Laws.{segment-works}
 use borrow.Author.Needs.{needs}
 use Rattle.exports.proofs.segment_work.Statement.{statement}
 use Rattle.exports.proofs.segment_work.Tie as tie
@@ -6,8 +6,8 @@ use Rattle.exports.proofs.segment_work.Tie as tie
 work-requires : tie.Need-work-requires
 work-requires c κs = search needs
 
-told-requires : tie.Need-told-requires
-told-requires c κs = search needs
+work-answer-requires : tie.Need-work-answer-requires
+work-answer-requires c κs = search needs
 
 same-length : tie.Need-same-length
 same-length c = search needs
@@ -19,9 +19,9 @@ same-length-3 : tie.Need-same-length-3
 same-length-3 c = search needs
 
 returns : tie.Need-returns
-returns c = works-told _ _ _ _ _ (c .before .before .before .before .before .before .before .work .ensures) (c .told .ensures)
+returns c = segment-works _ _ _ _ _ (c .before .before .before .before .before .before .before .work .ensures) (c .work-answer .ensures)
 
 pub segment-work-spec : {M : Type 1} → statement M
 segment-work-spec =
     tie.close
-    (tie.spec work-requires told-requires same-length same-length-2 same-length-3 returns)
+    (tie.spec work-requires work-answer-requires same-length same-length-2 same-length-3 returns)

@@ -3,7 +3,7 @@ use lib.ListN.{drop, replicate}
 use Prim.Native.Nat.{_-_}
 use mathlib.Core.Path.{ap, _∙_}
 use Rattle.movements.specs.Movements.{flowUnits}
-use Rattle.entries.specs.Laws.{discharged-le}
+use Rattle.entries.specs.Laws.{discharge-volume-le}
 use Rattle.propagation.proofs.Spreading.{front, front-long, entry-asks, entry-done}
 use borrow.Author.Needs.{needs}
 use Rattle.propagation.proofs.fill_entry.Statement.{statement}
@@ -22,7 +22,7 @@ discharge-entry-requires : tie.Need-discharge-entry-requires
 discharge-entry-requires c κs = search needs
 
 flow-units-requires : tie.Need-flow-units-requires
-flow-units-requires c κs = omega (arith, discharged-le _ _ _ (c .before .before .before .before .before .before .pre .entry) (c .before .discharge-entry .ensures .0))
+flow-units-requires c κs = omega (arith, discharge-volume-le _ _ _ (c .before .before .before .before .before .before .pre .entry) (c .before .discharge-entry .ensures .0))
 
 sub-spread : tie.Need-sub-spread
 sub-spread c = search needs

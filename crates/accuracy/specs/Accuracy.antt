@@ -1,0 +1,70 @@
+-- Demand 3: how near a working in whole flow units stays to the exact one, what its dispersion keeps, and what its pairs have of their entry.
+use Prim.Native.Nat.{ℕ, _+_, _-_, _*_, _≤_, _<_}
+use mathlib.Core.Path.{_≡_}
+use mathlib.Core.List.{List}
+use lib.ListN.{take, getD}
+use Rattle.lists.specs.Lists.{sum}
+use Rattle.signal.specs.Turn.{earlier}
+use Rattle.segment.specs.declared.Entry.{Entry}
+use Rattle.segment.specs.declared.Segment.{Segment}
+use Rattle.metering.specs.Metering.{dischargeVolume, dischargeUnits}
+use Rattle.entries.specs.Entries.{entryProfile}
+use Rattle.dispersion.specs.Dispersion.{arrivalTimeOf, reported}
+use Rattle.pair_parts.specs.PairParts.{Shared}
+use Rattle.exact.specs.Fraction.{Fraction, Within}
+use Rattle.exact.specs.Exact.{exactPair, exactExit}
+use Rattle.exact_dispersion.specs.ExactDispersion.{exactReported, departed, arrived, Balanced}
+use Rattle.propagation.specs.Propagation.{Profiles, cycles, pairFlow, pairOf, landsIn}
+
+-- what an exit exactly has of an entry in discharge step i of the reported cycle
+unfoldable pub exactOf : Segment → Entry → (v i : ℕ) → Fraction
+exactOf s e v i = exactPair (exactReported (s .running) (entryProfile (s .cycle) e) cycles i) v (dischargeUnits (s .cycle) e)
+
+-- an exit's exact flow in a step, landed alike: of the discharge step that lands there, the platoon arrival time before it
+unfoldable pub exactAt : Segment → List (List ℕ) → (exit step : ℕ) → Fraction
+exactAt s rows exit step =
+    let i = earlier (s .cycle) (arrivalTimeOf (s .running)) step in
+    exactExit (exactOf s (s .left) (pairFlow rows 0 exit) i)
+    (exactOf s (s .through) (pairFlow rows 1 exit) i)
+    (exactOf s (s .right) (pairFlow rows 2 exit) i)
+    (pairFlow rows 3 exit)
+
+-- number `step` of an exit's run in the output that a call left
+unfoldable pub outputAt : Segment → Profiles → (exit step : ℕ) → ℕ
+outputAt s p exit step = getD (p .output) (exit * s .cycle + (step - 1)) 0
+
+-- the right entry as the work profiles hold it: its arrivals in the last cycle, and the sum of those of all cycles worked
+unfoldable pub lastCycleIn : Segment → Profiles → List ℕ
+lastCycleIn s p = take (s .cycle) (p .second)
+
+unfoldable pub arrivedIn : Segment → Profiles → ℕ
+arrivedIn s p = sum (take (s .cycle) (p .first)) + sum (take (s .cycle) (p .second))
+
+-- one signalised entry, v the pair flow of each exit: what arrived over all cycles worked, and the arrivals of the last
+pub record EntryHolds (s : Segment) (e : Entry) (v : ℕ → ℕ) (all : ℕ) (last : List ℕ) : Type 0 where
+  -- N·(discharged - arrived) - (D-N)·(last step's arrival) is from 0 to D - 1
+  pub balanced : Balanced (s .running) (departed (entryProfile (s .cycle) e) cycles) all (getD last (s .cycle - 1) 0)
+  -- where it discharges: a pair's arrivals in the reported cycle never exceed v/(1000·O) of the entry's, and fall short of it by less than one
+  pub shared : 0 < dischargeVolume (s .cycle) e → (exit : ℕ) → exit < 4 →
+      Shared (v exit) (dischargeUnits (s .cycle) e) (sum last) (sum (pairOf s e (v exit)))
+
+-- an entry whose arrivals no profile keeps: those of dispersion
+abbrev pub EntryMeets : Segment → Entry → (ℕ → ℕ) → Type 0
+EntryMeets s e v =
+    let q = entryProfile (s .cycle) e in
+    EntryHolds s e v (arrived (s .running) q cycles) (reported (s .running) q cycles)
+
+-- the whole demand, of a segment with its sixteen pair flows and the three profiles that a call left
+pub record Accurate (s : Segment) (rows : List (List ℕ)) (p : Profiles) : Type 0 where
+  -- an exit's flow in a step differs from the exact one by less than six
+  pub flows : (exit step : ℕ) → exit < 4 → 0 < step → step ≤ s .cycle → Within 6 (outputAt s p exit step) (exactAt s rows exit step)
+  -- it is access's v and what the pairs land there, whose sums `shared` bounds
+  pub landed : (exit step : ℕ) → exit < 4 → 0 < step → step ≤ s .cycle → outputAt s p exit step
+      ≡ pairFlow rows 3 exit
+      + landsIn s (s .left) (pairFlow rows 0 exit) step
+      + landsIn s (s .through) (pairFlow rows 1 exit) step
+      + landsIn s (s .right) (pairFlow rows 2 exit) step
+  pub left : EntryMeets s (s .left) (pairFlow rows 0)
+  pub through : EntryMeets s (s .through) (pairFlow rows 1)
+  -- the right entry's arrivals are those that the work profiles hold
+  pub right : EntryHolds s (s .right) (pairFlow rows 2) (arrivedIn s p) (lastCycleIn s p)

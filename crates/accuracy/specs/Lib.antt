@@ -1,0 +1,3 @@
+pub mod Accuracy
+pub mod Holds
+pub mod Alone

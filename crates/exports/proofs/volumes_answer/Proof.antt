@@ -1,0 +1,20 @@
+use mathlib.Core.Path.{sym, ap}
+use Rattle.exports.specs.Exports.{volumesAnswer}
+use borrow.Author.Needs.{needs}
+use Rattle.exports.proofs.volumes_answer.Statement.{statement}
+use Rattle.exports.proofs.volumes_answer.Tie as tie
+
+enum-known-d : tie.Need-enum-known-d
+enum-known-d c = search needs
+
+enum-known-d-2 : tie.Need-enum-known-d-2
+enum-known-d-2 c = search needs
+
+returns : tie.Need-returns
+returns c = sym (ap volumesAnswer (c .before .d .given .1))
+
+returns-2 : tie.Need-returns-2
+returns-2 c = sym (ap volumesAnswer (c .before .d2 .given .1))
+
+pub volumes-answer-spec : {M : Type 1} → statement M
+volumes-answer-spec = tie.close (tie.spec enum-known-d enum-known-d-2 returns returns-2)

@@ -1,9 +1,0 @@
-use mathlib.Core.Path.{refl}
-use Rattle.volumes.proofs.destination_volume.Statement.{statement}
-use Rattle.volumes.proofs.destination_volume.Tie as tie
-
-returns : tie.Need-returns
-returns c = refl
-
-pub destination-volume-spec : {M : Type 1} → statement M
-destination-volume-spec = tie.close (tie.spec returns)
