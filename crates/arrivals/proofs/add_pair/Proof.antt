@@ -38,12 +38,6 @@ later-requires c κs = let p = start c .pre in omega (arith, p .some, p .cycle, 
 loop-holds : tie.Need-loop-holds Inv-loop μ-loop
 loop-holds c = pair-start _ _ _ _ _ (c .before .if1 .left) (start (c .before) .pre .share) (c .later .ensures)
 
-mul-part-of : tie.Need-mul-part-of Inv-loop μ-loop
-mul-part-of c = omega arith
-
-shared-slice-read-part-of : tie.Need-shared-slice-read-part-of Inv-loop μ-loop
-shared-slice-read-part-of c = omega arith
-
 part-of-requires : tie.Need-part-of-requires Inv-loop μ-loop
 part-of-requires c κs = omega (arith, start (shared (c .before)) .pre .share)
 
@@ -72,12 +66,6 @@ next-requires c κs =
     let pre = start (shared t) .pre in
     omega (arith, lands-pos inv pre, lands-le inv pre, pre .cycle)
 
-add-i : tie.Need-add-i Inv-loop μ-loop
-add-i c = omega arith
-
-loop-less : tie.Need-loop-less Inv-loop μ-loop
-loop-less c = omega arith
-
 loop-again : tie.Need-loop-again Inv-loop μ-loop
 loop-again c =
     let i = c .before .before .before in
@@ -93,24 +81,5 @@ returns-2 c = pair-done (c .before .loop .inv) (c .loop-test .left)
 pub add-pair-spec : {M : Type 1} → statement M
 add-pair-spec =
     tie.close
-    (tie.spec
-    Inv-loop
-    μ-loop
-    returns
-    cast-c
-    later-requires
-    loop-holds
-    mul-part-of
-    shared-slice-read-part-of
-    part-of-requires
-    index-requires
-    mul-run
-    slice-read-run
-    add-run
-    slice-write-run
-    next-requires
-    add-i
-    loop-less
-    loop-again
-    same-length
-    returns-2)
+    (tie.spec Inv-loop μ-loop returns cast-c later-requires loop-holds (λ c. omega arith) (λ c. omega arith) part-of-requires index-requires mul-run
+    slice-read-run add-run slice-write-run next-requires (λ c. omega arith) (λ c. omega arith) loop-again same-length returns-2)

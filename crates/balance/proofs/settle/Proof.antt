@@ -22,20 +22,11 @@ returns c = let l = c .before .before .before .before .before .loop in
     let a = c .before .before .before .before .before .before .before .args in
     c .unsettled .ensures ∙ sym (l .inv .1 ∙ stopped (a .o) (a .d) (a .p) roundLimit (l .n) (l .before) (c .before .before .before .round-of .result) (omega arith) (c .before .before .before .round-of .ensures) (sym (c .before .before .stops .ensures) ∙ c .before .if1 .taken))
 
-add-closed : tie.Need-add-closed Inv-loop μ-loop
-add-closed c = omega arith
-
 returns-2 : tie.Need-returns-2 Inv-loop μ-loop
 returns-2 c = let l = c .before .before .before .before .before .before .before .before .loop in
     let a = c .before .before .before .before .before .before .before .before .before .before .args in
     let e = closes (a .o) (a .d) (a .p) roundLimit (l .n) (l .before) (c .before .before .before .before .before .before .round-of .result) (omega arith) (c .before .before .before .before .before .before .round-of .ensures) (sym (c .before .before .before .before .before .stops .ensures) ∙ c .before .before .before .before .if1 .left) (c .before .before .if2 .taken) in
     c .closed .ensures ∙ rw (c .before .cells-of .ensures) (sym (l .inv .1 ∙ e))
-
-add-n : tie.Need-add-n Inv-loop μ-loop
-add-n c = omega arith
-
-loop-less : tie.Need-loop-less Inv-loop μ-loop
-loop-less c = omega arith
 
 loop-again : tie.Need-loop-again Inv-loop μ-loop
 loop-again c = let l = c .before .before .before .before .before .before .loop in
@@ -50,21 +41,5 @@ returns-3 c = let l = c .before .before .loop in
 pub settle-spec : {M : Type 1} → statement M
 settle-spec =
     tie.close
-    (tie.spec
-    Inv-loop
-    μ-loop
-    (λ c κs. tt)
-    loop-holds
-    (λ c κs. tt)
-    (λ c κs. tt)
-    (λ c κs. tt)
-    returns
-    (λ c κs. tt)
-    add-closed
-    (λ c κs. tt)
-    returns-2
-    add-n
-    loop-less
-    loop-again
-    (λ c κs. tt)
-    returns-3)
+    (tie.spec Inv-loop μ-loop (λ c κs. tt) loop-holds (λ c κs. tt) (λ c κs. tt) (λ c κs. tt) returns (λ c κs. tt) (λ c. omega arith) (λ c κs. tt)
+    returns-2 (λ c. omega arith) (λ c. omega arith) loop-again (λ c κs. tt) returns-3)

@@ -15,9 +15,6 @@ truncating-f64-to-u64-requires : tie.Need-truncating-f64-to-u64-requires
 unfolding ofBits neg
 truncating-f64-to-u64-requires c κs = (subst T (sym (c .before .if1 .taken)) tt, subst T (sym (c .if2 .taken)) tt)
 
-cast-result : tie.Need-cast-result
-cast-result c = search needs
-
 returns : tie.Need-returns
 unfolding cellUnits
 returns c = let a = c .before .before .before .before .args in
@@ -38,6 +35,4 @@ unfolding ofBits neg cellUnits
 returns-4 c = (below (times (c .before .args .cell) thousand) (c .before .args .left) (c .if1 .left), omega arith)
 
 pub cell-units-spec : {M : Type 1} → statement M
-cell-units-spec =
-    tie.close
-    (tie.spec truncating-f64-to-u64-requires cast-result returns returns-2 returns-3 returns-4)
+cell-units-spec = tie.close (tie.spec truncating-f64-to-u64-requires (λ c. search needs) returns returns-2 returns-3 returns-4)

@@ -15,35 +15,17 @@ Inv-loop green run c arrived₀ k₀ arrived k = Tallied (greenNumber green run)
 abbrev μ-loop : tie.MeasureT-loop
 μ-loop green run c arrived₀ k₀ arrived k = length run - k
 
-cast-c : tie.Need-cast-c Inv-loop μ-loop
-cast-c c = omega arith
-
 loop-holds : tie.Need-loop-holds Inv-loop μ-loop
 loop-holds c = tally-start _ _
 
-step-at-requires : tie.Need-step-at-requires Inv-loop μ-loop
-step-at-requires c κs = omega arith
-
 in-green-requires : tie.Need-in-green-requires Inv-loop μ-loop
 in-green-requires c κs = let o = c .before .before .before .before in (o .pre .0, o .pre .1, omega arith, omega arith)
-
-mul-arrived : tie.Need-mul-arrived Inv-loop μ-loop
-mul-arrived c = omega arith
-
-shared-slice-read-arrived : tie.Need-shared-slice-read-arrived Inv-loop μ-loop
-shared-slice-read-arrived c = omega arith
 
 cast-arrived : tie.Need-cast-arrived Inv-loop μ-loop
 cast-arrived c = omega (arith, c .shared-slice-known2 .given (c .before .before .before .before .before .loop .k))
 
 add-arrived : tie.Need-add-arrived Inv-loop μ-loop
 add-arrived c = let l = c .before .before .before .before .before in omega (arith, c .shared-slice-known2 .given (l .loop .k), l .loop .inv .small, l .loop .inv .within)
-
-add-k : tie.Need-add-k Inv-loop μ-loop
-add-k c = omega arith
-
-loop-less : tie.Need-loop-less Inv-loop μ-loop
-loop-less c = omega arith
 
 loop-again : tie.Need-loop-again Inv-loop μ-loop
 loop-again c =
@@ -60,18 +42,5 @@ returns c = tally-done (c .before .loop .inv) (c .loop-test .left) ∙ sym (gree
 pub green-flow-spec : {M : Type 1} → statement M
 green-flow-spec =
     tie.close
-    (tie.spec
-    Inv-loop
-    μ-loop
-    cast-c
-    loop-holds
-    step-at-requires
-    in-green-requires
-    mul-arrived
-    shared-slice-read-arrived
-    cast-arrived
-    add-arrived
-    add-k
-    loop-less
-    loop-again
-    returns)
+    (tie.spec Inv-loop μ-loop (λ c. omega arith) loop-holds (λ c κs. omega arith) in-green-requires (λ c. omega arith) (λ c. omega arith)
+    cast-arrived add-arrived (λ c. omega arith) (λ c. omega arith) loop-again returns)
