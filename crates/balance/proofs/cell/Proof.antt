@@ -1,3 +1,4 @@
+-- The product is the definition's, in its order.
 use mathlib.Core.Path.{refl}
 use Rattle.balance.proofs.cell.Statement.{statement}
 use Rattle.balance.proofs.cell.Tie as tie

@@ -1,3 +1,4 @@
+-- Unsettled, all cells are 0.
 use borrow.Author.Needs.{needs}
 use Rattle.balance.proofs.unsettled.Statement.{statement}
 use Rattle.balance.proofs.unsettled.Tie as tie

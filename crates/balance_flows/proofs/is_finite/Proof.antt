@@ -1,3 +1,4 @@
+-- Between the infinities stand the finite floats alone.
 use mathlib.Core.Path.{_≡_, refl}
 use mathlib.Core.Bool.{true, false, _&&_}
 use lib.Ieee.{Float, nan, inf, fin, lt, neg, div, ofBits}

@@ -1,3 +1,4 @@
+-- The sum is the definition's, in its order.
 use mathlib.Core.Path.{refl}
 use Rattle.balance_flows.proofs.total.Statement.{statement}
 use Rattle.balance_flows.proofs.total.Tie as tie

@@ -1,3 +1,4 @@
+-- No cell takes more than is left of the row.
 use borrow.Author.Needs.{needs}
 use Rattle.balance_pairs.proofs.pair_row.Statement.{statement}
 use Rattle.balance_pairs.proofs.pair_row.Tie as tie

@@ -1,3 +1,4 @@
+-- The four rows, each of its entry's flow units.
 use Rattle.balance_pairs.specs.Pairs.{pairRows}
 use borrow.Author.Needs.{needs}
 use Rattle.balance_pairs.proofs.pair_rows.Statement.{statement}
@@ -5,7 +6,20 @@ use Rattle.balance_pairs.proofs.pair_rows.Tie as tie
 
 returns : tie.Need-returns
 unfolding pairRows
-returns c = rw (c .pair-row4 .ensures, c .before .flow-units4 .ensures, c .before .before .pair-row3 .ensures, c .before .before .before .flow-units3 .ensures, c .before .before .before .before .pair-row2 .ensures, c .before .before .before .before .before .flow-units2 .ensures, c .before .before .before .before .before .before .pair-row .ensures, c .before .before .before .before .before .before .before .flow-units .ensures)
+returns c =
+    let third = c .before .before in
+    let second = third .before .before in
+    let first = second .before .before in
+    rw (
+      c .pair-row4 .ensures,
+      c .before .flow-units4 .ensures,
+      third .pair-row3 .ensures,
+      third .before .flow-units3 .ensures,
+      second .pair-row2 .ensures,
+      second .before .flow-units2 .ensures,
+      first .pair-row .ensures,
+      first .before .flow-units .ensures,
+    )
 
 pub pair-rows-spec : {M : Type 1} → statement M
 pair-rows-spec =

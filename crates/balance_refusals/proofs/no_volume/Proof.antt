@@ -1,3 +1,4 @@
+-- Either total is 0.
 use Rattle.balance_refusals.specs.Refusals.{noVolume}
 use Rattle.balance_refusals.proofs.no_volume.Statement.{statement}
 use Rattle.balance_refusals.proofs.no_volume.Tie as tie

@@ -1,3 +1,4 @@
+-- The product and the quotient are the definition's.
 use mathlib.Core.Path.{refl}
 use Rattle.balance_volumes.proofs.destination_volume.Statement.{statement}
 use Rattle.balance_volumes.proofs.destination_volume.Tie as tie

@@ -1,3 +1,4 @@
+-- The cast and the quotient are the definition's.
 use mathlib.Core.Path.{refl}
 use borrow.Author.Needs.{needs}
 use Rattle.balance_volumes.proofs.proportion.Statement.{statement}

@@ -1,3 +1,4 @@
+-- The loop keeps Alternating: k cycles are worked, each profile as long as it was; the cycles left fall.
 use Prim.Native.Nat.{_-_}
 use mathlib.Core.Logic.{⊎-elim}
 use native.Mathlib.Omega.{arith}
