@@ -1,6 +1,7 @@
 -- Four 64-bit floats, one for each movement. Each operation rounds once; sums run left, through, right, access.
-use mathlib.Core.Bool.{Bool, true, false, cond, _&&_}
-use lib.Ieee.{Float, nan, inf, fin, binary64, ofBits, add, mul, div, eq}
+use mathlib.Core.Bool.{Bool, cond, _&&_}
+use lib.Ieee.{Float, binary64, ofBits, add, mul, div, eq}
+use lib.Ieee.Scale.{finite}
 use Rattle.balance_flows.specs.declared.Flows.{Flows}
 use Rattle.balance_flows.specs.declared.FlowTable.{FlowTable}
 
@@ -16,12 +17,7 @@ times x y = mul binary64 x y
 abbrev pub over : Float → Float → Float
 over x y = div binary64 x y
 
--- neither an infinity nor a NaN
-unfoldable pub finite : Float → Bool
-finite nan = false
-finite (inf s) = false
-finite (fin s m e) = true
-
+-- none of the four is an infinity or a NaN
 unfoldable pub allFinite : Flows → Bool
 allFinite x = ((finite (x .left) && finite (x .through)) && finite (x .right)) && finite (x .access)
 

@@ -1,7 +1,8 @@
 // Four floats, one for each movement in the order left, through, right, access, and what is computed with them.
 // Every operation rounds once, and sums run in that order.
 ghost use mathlib.Core.Path.{_≡_};
-ghost use Rattle.balance_flows.specs.Flows.{finite, allFinite, tableFinite, total, quotient, quotients};
+ghost use lib.Ieee.Scale.{finite};
+ghost use Rattle.balance_flows.specs.Flows.{allFinite, tableFinite, total, quotient, quotients};
 
 // One figure for each movement: the paper's record of floats.
 pub struct Flows {

@@ -15,13 +15,21 @@ use Rattle.balance_pairs.specs.Pairs.{limited}
 cap : (a left : ℕ) → left < 2 ^ 64 → min (min a (2 ^ 64 - 1)) left ≡ min a left
 cap a left h = omega arith
 
-pub cast : (x : Float) (left : ℕ) → left < 2 ^ 64 → limited x left ≡ min (toUnsigned 64 x) left
+cast : (x : Float) (left : ℕ) → left < 2 ^ 64 → limited x left ≡ min (toUnsigned 64 x) left
 unfolding limited toUnsigned
 cast nan left h = sym (zero-min left)
 cast (inf true) left h = sym (zero-min left)
 cast (inf false) left h = omega arith
 cast (fin true m e) left h = sym (zero-min left)
 cast (fin false m e) left h = sym (cap (m * up e / down e) left h)
+
+-- the cast's result k, or the cap
+module _ (x : Float) (left : ℕ) (h : left < 2 ^ 64) {k : ℕ} (e : k ≡ toUnsigned 64 x) where
+  pub cast-below : k < left → k ≡ limited x left
+  cast-below l = rw (cast x left h, ← e) (omega arith)
+
+  pub cast-above : left ≤ k → left ≡ limited x left
+  cast-above l = rw (cast x left h, ← e) (omega arith)
 
 pub above : (x : Float) (left : ℕ) → left < 2 ^ 64 → lt (fin true 1 (pos 0)) x ≡ true → lt x (fin false 1 (pos 64)) ≡ false → left ≡ limited x left
 unfolding limited lt

@@ -5,12 +5,12 @@ use lib.Dec.{ltb, eqb}
 use Rattle.movements.specs.declared.Counts.{Counts}
 use Rattle.movements.specs.declared.Seeds.{Seeds}
 
-abbrev pub sum : Counts → ℕ
-sum x = x .left + x .through + x .right + x .access
+abbrev pub countsTotal : Counts → ℕ
+countsTotal x = x .left + x .through + x .right + x .access
 
 -- 13: total discharge or total exit volume 0
 unfoldable pub noVolume : Counts → Counts → Bool
-noVolume o exits = eqb (sum o) 0 || eqb (sum exits) 0
+noVolume o exits = eqb (countsTotal o) 0 || eqb (countsTotal exits) 0
 
 -- both above 0 for some movement
 unfoldable pub meets : Counts → Counts → Bool

@@ -1,7 +1,7 @@
 // Whether the volumes can be balanced at all, by whole numbers alone.
 ghost use mathlib.Core.Path.{_≡_};
 ghost use Prim.Native.Nat.{_≤_};
-ghost use Rattle.balance_refusals.specs.Refusals.{sum, noVolume, meets, unservedEntry, unservedExit, anyUnservedEntry, anyUnservedExit};
+ghost use Rattle.balance_refusals.specs.Refusals.{countsTotal, noVolume, meets, unservedEntry, unservedExit, anyUnservedEntry, anyUnservedExit};
 use movements::Counts;
 use movements::Seeds;
 
@@ -11,8 +11,8 @@ fn wide(n: u32) -> u64
     n as u64
 }
 
-fn sum(x: Counts) -> u64
-    ensures { λ r. ⌜ r ≡ sum x ⌝ }
+fn total(x: Counts) -> u64
+    ensures { λ r. ⌜ r ≡ countsTotal x ⌝ }
 {
     wide(x.left) + wide(x.through) + wide(x.right) + wide(x.access)
 }
@@ -20,7 +20,7 @@ fn sum(x: Counts) -> u64
 pub fn no_volume(o: Counts, exits: Counts) -> bool
     ensures { λ r. ⌜ r ≡ noVolume o exits ⌝ }
 {
-    (sum(o) == 0) | (sum(exits) == 0)
+    (total(o) == 0) | (total(exits) == 0)
 }
 
 fn meets(x: Counts, y: Counts) -> bool

@@ -1,9 +1,10 @@
 -- One round of balancing: item 3 of "Metering and shares", equations 30-4 to 30-7.
 use mathlib.Core.Bool.{Bool, cond, _&&_, _||_, not}
 use lib.Ieee.{Float, binary64, sub, lt, eq}
+use lib.Ieee.Scale.{finite}
 use Rattle.balance_flows.specs.declared.Flows.{Flows}
 use Rattle.balance_flows.specs.declared.FlowTable.{FlowTable}
-use Rattle.balance_flows.specs.Flows.{zero64, finite, allFinite, flowsOf, total, weighted, quotients}
+use Rattle.balance_flows.specs.Flows.{zero64, allFinite, flowsOf, total, weighted, quotients}
 use Rattle.balance_round.specs.declared.Round.{Round}
 
 -- one exit's seeds, by entry

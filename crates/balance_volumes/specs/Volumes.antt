@@ -37,7 +37,8 @@ unfoldable pub proportionRow : Counts → Flows
 proportionRow x = flowsOf (proportion (x .left)) (proportion (x .through)) (proportion (x .right)) (proportion (x .access))
 
 unfoldable pub proportions : Seeds → FlowTable
-proportions x = record { left = proportionRow (x .left); through = proportionRow (x .through); right = proportionRow (x .right); access = proportionRow (x .access) }
+proportions x =
+    record { left = proportionRow (x .left); through = proportionRow (x .through); right = proportionRow (x .right); access = proportionRow (x .access) }
 
 -- D = (exit volume · total discharge) / total exit volume
 abbrev pub destinationVolume : Float → Float → Float → Float

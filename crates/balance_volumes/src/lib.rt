@@ -1,6 +1,7 @@
 // Whole volumes and seeds as 64-bit floats, and the exits' volumes adjusted to what is discharged.
 ghost use mathlib.Core.Path.{_≡_};
-ghost use Rattle.balance_volumes.specs.Volumes.{dischargeFloat, exitFloat, proportion, dischargeFloats, exitFloats, proportionRow, proportions, destinationVolume, destinationVolumes};
+ghost use Rattle.balance_volumes.specs.Volumes.{dischargeFloat, exitFloat, proportion, destinationVolume};
+ghost use Rattle.balance_volumes.specs.Volumes.{dischargeFloats, exitFloats, proportionRow, proportions, destinationVolumes};
 use balance_flows::FlowTable;
 use balance_flows::Flows;
 use movements::Counts;

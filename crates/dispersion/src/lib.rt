@@ -80,7 +80,8 @@ pub fn alternate(
 ) -> PlatoonState
     requires { ⌜ running ≤ mostRunning ⌝ }
     requires { ⌜ (length (now discharge) ≤ length (now first)) × (length (now discharge) ≤ length (now second)) ⌝ }
-    ensures { λ r. ⌜ work r (now (first .exit)) (now (second .exit)) ≡ cyclesWorked running (now (discharge .entry)) cycles (now (first .entry)) (now (second .entry)) ⌝ }
+    ensures { λ r. ⌜ work r (now (first .exit)) (now (second .exit))
+        ≡ cyclesWorked running (now (discharge .entry)) cycles (now (first .entry)) (now (second .entry)) ⌝ }
 {
     let mut state = PlatoonState { level: 0, carry: 0 };
     let mut k: u32 = 0;

@@ -1,3 +1,4 @@
+-- The four cells of an entry.
 use Rattle.balance.specs.Settling.{cellRow}
 use Rattle.balance.proofs.cell_row.Statement.{statement}
 use Rattle.balance.proofs.cell_row.Tie as tie

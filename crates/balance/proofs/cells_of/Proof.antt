@@ -1,3 +1,4 @@
+-- The four rows of cells.
 use Rattle.balance.specs.Settling.{cellsOf}
 use Rattle.balance.proofs.cells_of.Statement.{statement}
 use Rattle.balance.proofs.cells_of.Tie as tie

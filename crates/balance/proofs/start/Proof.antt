@@ -1,3 +1,4 @@
+-- Before the first round stand the origins alone.
 use Rattle.balance.specs.Settling.{start}
 use Rattle.balance.proofs.start.Statement.{statement}
 use Rattle.balance.proofs.start.Tie as tie

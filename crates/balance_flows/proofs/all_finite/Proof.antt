@@ -1,3 +1,4 @@
+-- Each of the four is finite.
 use Rattle.balance_flows.specs.Flows.{allFinite}
 use Rattle.balance_flows.proofs.all_finite.Statement.{statement}
 use Rattle.balance_flows.proofs.all_finite.Tie as tie

@@ -1,12 +1,13 @@
+-- Between the infinities stand the finite floats alone.
 use mathlib.Core.Path.{_≡_, refl}
 use mathlib.Core.Bool.{true, false, _&&_}
 use lib.Ieee.{Float, nan, inf, fin, lt, neg, div, ofBits}
-use Rattle.balance_flows.specs.Flows.{finite}
+use lib.Ieee.Scale.{finite}
 use Rattle.balance_flows.proofs.is_finite.Statement.{statement}
 use Rattle.balance_flows.proofs.is_finite.Tie as tie
 
 between : (x : Float) → (lt (inf true) x && lt x (inf false)) ≡ finite x
-unfolding lt finite
+unfolding lt
 between nan = refl
 between (inf true) = refl
 between (inf false) = refl

@@ -1,3 +1,4 @@
+-- By the test: 0 where n is 0, else n over m.
 use Rattle.balance_flows.proofs.quotient.Statement.{statement}
 use Rattle.balance_flows.proofs.quotient.Tie as tie
 

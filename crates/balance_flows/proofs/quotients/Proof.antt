@@ -1,3 +1,4 @@
+-- The four quotients.
 use Rattle.balance_flows.specs.Flows.{quotients}
 use Rattle.balance_flows.proofs.quotients.Statement.{statement}
 use Rattle.balance_flows.proofs.quotients.Tie as tie

@@ -1,3 +1,4 @@
+-- The test is the definition's.
 use mathlib.Core.Path.{refl}
 use Rattle.balance_refusals.specs.Refusals.{meets}
 use Rattle.balance_refusals.proofs.meets.Statement.{statement}

@@ -1,3 +1,4 @@
+-- An entry with discharge that meets no exit.
 use Rattle.balance_refusals.specs.Refusals.{unservedEntry}
 use Rattle.balance_refusals.proofs.unserved_entry.Statement.{statement}
 use Rattle.balance_refusals.proofs.unserved_entry.Tie as tie

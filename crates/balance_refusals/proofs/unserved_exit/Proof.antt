@@ -1,3 +1,4 @@
+-- An exit with volume that meets no entry.
 use Rattle.balance_refusals.specs.Refusals.{unservedExit}
 use Rattle.balance_refusals.proofs.unserved_exit.Statement.{statement}
 use Rattle.balance_refusals.proofs.unserved_exit.Tie as tie

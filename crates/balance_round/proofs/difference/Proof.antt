@@ -1,3 +1,4 @@
+-- By the test: the larger minus the smaller.
 use Rattle.balance_round.proofs.difference.Statement.{statement}
 use Rattle.balance_round.proofs.difference.Tie as tie
 

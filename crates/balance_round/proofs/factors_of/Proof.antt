@@ -1,3 +1,4 @@
+-- Equation 30-6 for each entry.
 use Rattle.balance_round.specs.Round.{factorsOf}
 use Rattle.balance_round.proofs.factors_of.Statement.{statement}
 use Rattle.balance_round.proofs.factors_of.Tie as tie

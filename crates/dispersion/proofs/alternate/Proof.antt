@@ -1,3 +1,4 @@
+-- The loop keeps Alternating: k cycles are worked, each profile as long as it was; the cycles left fall.
 use Prim.Native.Nat.{_-_}
 use mathlib.Core.Logic.{⊎-elim}
 use native.Mathlib.Omega.{arith}
@@ -20,12 +21,6 @@ disperse-requires c κs = (search needs, (search needs, omega arith))
 
 disperse-requires-2 : tie.Need-disperse-requires-2 Inv-loop μ-loop
 disperse-requires-2 c κs = (search needs, (search needs, omega arith))
-
-add-k : tie.Need-add-k Inv-loop μ-loop
-add-k c = omega arith
-
-loop-less : tie.Need-loop-less Inv-loop μ-loop
-loop-less c = omega arith
 
 loop-again : tie.Need-loop-again Inv-loop μ-loop
 loop-again c =
@@ -52,15 +47,5 @@ returns c = alternate-done (c .before .loop .inv) (c .loop-test .left)
 pub alternate-spec : {M : Type 1} → statement M
 alternate-spec =
     tie.close
-    (tie.spec
-    Inv-loop
-    μ-loop
-    loop-holds
-    disperse-requires
-    disperse-requires-2
-    add-k
-    loop-less
-    loop-again
-    same-length
-    same-length-2
-    returns)
+    (tie.spec Inv-loop μ-loop loop-holds disperse-requires disperse-requires-2 (λ c. omega arith) (λ c. omega arith) loop-again same-length
+    same-length-2 returns)

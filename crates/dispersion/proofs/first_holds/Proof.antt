@@ -3,8 +3,5 @@ use borrow.Author.Needs.{needs}
 use Rattle.dispersion.proofs.first_holds.Statement.{statement}
 use Rattle.dispersion.proofs.first_holds.Tie as tie
 
-returns : tie.Need-returns
-returns c = search needs
-
 pub first-holds-spec : {M : Type 1} → statement M
-first-holds-spec = tie.close (tie.spec returns)
+first-holds-spec = tie.close (tie.spec (λ c. search needs))

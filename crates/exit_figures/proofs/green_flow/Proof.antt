@@ -1,6 +1,6 @@
+-- The loop keeps Tallied: what the green steps gone brought, the rest to come; the steps left fall.
 use Prim.Native.Nat.{_-_}
 use native.Mathlib.Omega.{arith}
-use mathlib.Core.Bool.{true, false}
 use mathlib.Core.Logic.{⊎-elim}
 use mathlib.Core.Path.{sym, _∙_}
 use lib.ListN.{length}
@@ -15,44 +15,36 @@ Inv-loop green run c arrived₀ k₀ arrived k = Tallied (greenNumber green run)
 abbrev μ-loop : tie.MeasureT-loop
 μ-loop green run c arrived₀ k₀ arrived k = length run - k
 
-cast-c : tie.Need-cast-c Inv-loop μ-loop
-cast-c c = omega arith
+-- the turn whose step was tested, and the call's start
+abbrev turn : tie.After-in-green Inv-loop μ-loop → tie.In-loop Inv-loop μ-loop
+turn c = c .before .before
+
+abbrev start : tie.In-loop Inv-loop μ-loop → tie.Start Inv-loop μ-loop
+start c = c .before .before .before
 
 loop-holds : tie.Need-loop-holds Inv-loop μ-loop
 loop-holds c = tally-start _ _
 
-step-at-requires : tie.Need-step-at-requires Inv-loop μ-loop
-step-at-requires c κs = omega arith
-
 in-green-requires : tie.Need-in-green-requires Inv-loop μ-loop
-in-green-requires c κs = let o = c .before .before .before .before in (o .pre .0, o .pre .1, omega arith, omega arith)
-
-mul-arrived : tie.Need-mul-arrived Inv-loop μ-loop
-mul-arrived c = omega arith
-
-shared-slice-read-arrived : tie.Need-shared-slice-read-arrived Inv-loop μ-loop
-shared-slice-read-arrived c = omega arith
+in-green-requires c κs = let pre = start (c .before) .pre in (pre .0, pre .1, omega arith, omega arith)
 
 cast-arrived : tie.Need-cast-arrived Inv-loop μ-loop
-cast-arrived c = omega (arith, c .shared-slice-known2 .given (c .before .before .before .before .before .loop .k))
+cast-arrived c = omega (arith, c .shared-slice-known2 .given (turn (c .before .before) .before .loop .k))
 
 add-arrived : tie.Need-add-arrived Inv-loop μ-loop
-add-arrived c = let l = c .before .before .before .before .before in omega (arith, c .shared-slice-known2 .given (l .loop .k), l .loop .inv .small, l .loop .inv .within)
-
-add-k : tie.Need-add-k Inv-loop μ-loop
-add-k c = omega arith
-
-loop-less : tie.Need-loop-less Inv-loop μ-loop
-loop-less c = omega arith
+add-arrived c =
+    let l = turn (c .before .before) .before .loop in
+    omega (arith, c .shared-slice-known2 .given (l .k), l .inv .small, l .inv .within)
 
 loop-again : tie.Need-loop-again Inv-loop μ-loop
 loop-again c =
-    let l = c .before .before .before .before in
-    let o = l .before .before in
-    let s = c .before .before .step-at in
+    let t = turn (c .before) in
+    let run = start t .args .run .now in
+    let s = c .before .before .step-at .ensures in
     let e = sym (c .before .in-green .ensures) in
-    ⊎-elim (λ w. green-turn _ (o .args .run .now) (l .loop .inv) (omega arith) (s .result .0) (s .ensures) true (e ∙ w .0 .taken) _ (w .2) (w .1 .given _ .fits))
-    (λ w. green-turn _ (o .args .run .now) (l .loop .inv) (omega arith) (s .result .0) (s .ensures) false (e ∙ w .0 .left) _ (omega (arith, w .1)) (omega arith)) (c .if1 .came)
+    ⊎-elim (λ w. green-turn _ run (t .before .loop .inv) (t .loop-test .taken) s (e ∙ w .0 .taken) (w .2) (w .1 .given _ .fits))
+    (λ w. green-turn _ run (t .before .loop .inv) (t .loop-test .taken) s (e ∙ w .0 .left) (omega (arith, w .1)) (omega arith))
+    (c .if1 .came)
 
 returns : tie.Need-returns Inv-loop μ-loop
 returns c = tally-done (c .before .loop .inv) (c .loop-test .left) ∙ sym (green-flow-sum _ _ (c .before .before .before .pre .1))
@@ -60,18 +52,5 @@ returns c = tally-done (c .before .loop .inv) (c .loop-test .left) ∙ sym (gree
 pub green-flow-spec : {M : Type 1} → statement M
 green-flow-spec =
     tie.close
-    (tie.spec
-    Inv-loop
-    μ-loop
-    cast-c
-    loop-holds
-    step-at-requires
-    in-green-requires
-    mul-arrived
-    shared-slice-read-arrived
-    cast-arrived
-    add-arrived
-    add-k
-    loop-less
-    loop-again
-    returns)
+    (tie.spec Inv-loop μ-loop (λ c. omega arith) loop-holds (λ c κs. omega arith) in-green-requires (λ c. omega arith) (λ c. omega arith)
+    cast-arrived add-arrived (λ c. omega arith) (λ c. omega arith) loop-again returns)
