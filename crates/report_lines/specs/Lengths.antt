@@ -5,7 +5,8 @@ use mathlib.Core.List.{List}
 use lib.ListN.{length, length-append}
 use Rattle.text.specs.Digits.{field-length}
 use Rattle.exit_figures.specs.declared.ExitFigures.{ExitFigures}
-use Rattle.report_lines.specs.Lines.{recordLabel, cycleLabel, shiftLabel, roundsLabel, exitLabel, greenLabel, permilleLabel, blockedLabel, ofLabel, refusedLabel, archiveLabel, letterA}
+use Rattle.report_lines.specs.Lines.{recordLabel, cycleLabel, shiftLabel, roundsLabel, exitLabel, greenLabel, permilleLabel}
+use Rattle.report_lines.specs.Lines.{blockedLabel, ofLabel, refusedLabel, archiveLabel, letterA}
 use Rattle.report_lines.specs.Lines.{recordLine, exitLine, accessLine, blockedLine, refusedLine, archiveRefusedLine}
 
 -- each line: its words, twenty digits a number, a newline

@@ -1,4 +1,5 @@
--- To read: Lines has every definition that a contract cites. Lengths: how long they get. Example: the paper's lines as values that compute.
+-- Words: a text as bytes. Lines: every definition that a contract cites. Lengths: how long they get. Example: the paper's lines as values that compute.
+pub mod Words
 pub mod Lines
 pub mod Lengths
 pub mod Example

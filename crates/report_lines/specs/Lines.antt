@@ -1,71 +1,61 @@
 -- The lines that the program prints. Paper 01's words stand in them: card for a segment record, drawer for an archive, shift for the
 -- platoon arrival time, l, t, r and a for the exits.
 use Prim.Native.Nat.{ℕ}
-use mathlib.Core.List.{List, [], _∷_, _++_}
+use Prim.Native.Char.{code}
+use mathlib.Core.List.{List, _∷_, _++_}
 use Rattle.text.specs.Text.{field}
 use Rattle.exit_figures.specs.declared.ExitFigures.{ExitFigures}
+use Rattle.report_lines.specs.Words.{bytes}
 
--- ---- the words, as bytes
+-- ---- the words
 
--- "card "
 abbrev pub recordLabel : List ℕ
-recordLabel = 99 ∷ 97 ∷ 114 ∷ 100 ∷ 32 ∷ []
+recordLabel = bytes "card "
 
--- " cycle "
 abbrev pub cycleLabel : List ℕ
-cycleLabel = 32 ∷ 99 ∷ 121 ∷ 99 ∷ 108 ∷ 101 ∷ 32 ∷ []
+cycleLabel = bytes " cycle "
 
--- " shift "
 abbrev pub shiftLabel : List ℕ
-shiftLabel = 32 ∷ 115 ∷ 104 ∷ 105 ∷ 102 ∷ 116 ∷ 32 ∷ []
+shiftLabel = bytes " shift "
 
--- " rounds "
 abbrev pub roundsLabel : List ℕ
-roundsLabel = 32 ∷ 114 ∷ 111 ∷ 117 ∷ 110 ∷ 100 ∷ 115 ∷ 32 ∷ []
+roundsLabel = bytes " rounds "
 
--- "exit l total " for the letter l
 abbrev pub exitLabel : ℕ → List ℕ
-exitLabel letter = 101 ∷ 120 ∷ 105 ∷ 116 ∷ 32 ∷ letter ∷ 32 ∷ 116 ∷ 111 ∷ 116 ∷ 97 ∷ 108 ∷ 32 ∷ []
+exitLabel letter = bytes "exit " ++ letter ∷ bytes " total "
 
--- " green "
 abbrev pub greenLabel : List ℕ
-greenLabel = 32 ∷ 103 ∷ 114 ∷ 101 ∷ 101 ∷ 110 ∷ 32 ∷ []
+greenLabel = bytes " green "
 
--- " permille "
 abbrev pub permilleLabel : List ℕ
-permilleLabel = 32 ∷ 112 ∷ 101 ∷ 114 ∷ 109 ∷ 105 ∷ 108 ∷ 108 ∷ 101 ∷ 32 ∷ []
+permilleLabel = bytes " permille "
 
--- "blocked "
 abbrev pub blockedLabel : List ℕ
-blockedLabel = 98 ∷ 108 ∷ 111 ∷ 99 ∷ 107 ∷ 101 ∷ 100 ∷ 32 ∷ []
+blockedLabel = bytes "blocked "
 
--- " of "
 abbrev pub ofLabel : List ℕ
-ofLabel = 32 ∷ 111 ∷ 102 ∷ 32 ∷ []
+ofLabel = bytes " of "
 
--- " refused "
 abbrev pub refusedLabel : List ℕ
-refusedLabel = 32 ∷ 114 ∷ 101 ∷ 102 ∷ 117 ∷ 115 ∷ 101 ∷ 100 ∷ 32 ∷ []
+refusedLabel = bytes " refused "
 
--- "drawer refused "
 abbrev pub archiveLabel : List ℕ
-archiveLabel = 100 ∷ 114 ∷ 97 ∷ 119 ∷ 101 ∷ 114 ∷ refusedLabel
+archiveLabel = bytes "drawer refused "
 
 abbrev pub newline : List ℕ
-newline = 10 ∷ []
+newline = bytes "\n"
 
--- the letters l, t, r, a
 abbrev pub letterL : ℕ
-letterL = 108
+letterL = code "l"
 
 abbrev pub letterT : ℕ
-letterT = 116
+letterT = code "t"
 
 abbrev pub letterR : ℕ
-letterR = 114
+letterR = code "r"
 
 abbrev pub letterA : ℕ
-letterA = 97
+letterA = code "a"
 
 -- ---- the lines
 

@@ -51,10 +51,9 @@ module _ {l : List ℕ} {at : ℕ} {run : List ℕ} {differ : Bool} {i : ℕ} (r
   unfolding wordsDiffer
   comparing-turn more w e =
       let n : at + 4 * i + 4 ≡ at + 4 * suc i = omega arith in
-      record {
-        within = omega arith;
-        same = r .same ∙ rw (drop-cons run i 0, add-one, n, e) (sym (or-assoc differ (not (eqb (word4 l (at + 4 * i)) (getD run i 0))) (wordsDiffer l (at + 4 * suc i) (drop (suc i) run))));
-      }
+      let here = not (eqb (word4 l (at + 4 * i)) (getD run i 0)) in
+      let rest = wordsDiffer l (at + 4 * suc i) (drop (suc i) run) in
+      record { within = omega arith; same = r .same ∙ rw (drop-cons run i 0, add-one, n, e) (sym (or-assoc differ here rest)) }
 
   pub comparing-done : length run ≤ i → differ ≡ wordsDiffer l at run
   unfolding wordsDiffer

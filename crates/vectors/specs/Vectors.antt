@@ -18,21 +18,13 @@ unfoldable pub wordsDiffer : List ℕ → ℕ → List ℕ → Bool
 wordsDiffer l at [] = false
 wordsDiffer l at (x ∷ xs) = not (eqb (word4 l at) x) || wordsDiffer l (at + 4) xs
 
--- some of a row of four is not
-unfoldable pub rowDiffers : List ℕ → ℕ → List ℕ → Bool
-rowDiffers l at row =
-    not (eqb (word4 l at) (getD row 0 0))
-    || not (eqb (word4 l (at + 4)) (getD row 1 0))
-    || not (eqb (word4 l (at + 8)) (getD row 2 0))
-    || not (eqb (word4 l (at + 12)) (getD row 3 0))
-
 -- some of the sixteen pair flows is not, row after row
 unfoldable pub rowsDiffer : List ℕ → ℕ → List (List ℕ) → Bool
 rowsDiffer l at rows =
-    rowDiffers l at (getD rows 0 [])
-    || rowDiffers l (at + 16) (getD rows 1 [])
-    || rowDiffers l (at + 32) (getD rows 2 [])
-    || rowDiffers l (at + 48) (getD rows 3 [])
+    wordsDiffer l at (getD rows 0 [])
+    || wordsDiffer l (at + 16) (getD rows 1 [])
+    || wordsDiffer l (at + 32) (getD rows 2 [])
+    || wordsDiffer l (at + 48) (getD rows 3 [])
 
 -- the eight bytes from a place on are not a float's bits
 unfoldable pub floatDiffers : List ℕ → ℕ → Float → Bool

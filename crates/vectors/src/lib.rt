@@ -5,7 +5,7 @@ ghost use lib.Ieee.{binary64, toBits};
 ghost use lib.ListN.{length};
 ghost use Rattle.octets.specs.Octets.{word4};
 ghost use Rattle.text.specs.Text.{Wrote};
-ghost use Rattle.vectors.specs.Vectors.{closingLine, floatDiffers, pattern, rowDiffers, rowsDiffer, wordsDiffer};
+ghost use Rattle.vectors.specs.Vectors.{closingLine, floatDiffers, pattern, rowsDiffer, wordsDiffer};
 use libc::STDIN_FILENO;
 use libc::STDOUT_FILENO;
 
@@ -91,12 +91,9 @@ pub fn numbers_differ(expected: &[u8], at: usize, run: &[u32]) -> bool
 
 fn row_differs(expected: &[u8], at: usize, row: [u32; 4]) -> bool
     requires { ⌜ at + 16 ≤ length (now expected) ⌝ }
-    ensures { λ r. ⌜ r ≡ rowDiffers (now (expected .entry)) at row ⌝ }
+    ensures { λ r. ⌜ r ≡ wordsDiffer (now (expected .entry)) at row ⌝ }
 {
-    (octets::word4_at(expected, at) != row[0])
-        | (octets::word4_at(expected, at + 4) != row[1])
-        | (octets::word4_at(expected, at + 8) != row[2])
-        | (octets::word4_at(expected, at + 12) != row[3])
+    numbers_differ(expected, at, &row)
 }
 
 // Whether some of the sixteen pair flows differs, in rows from a place on.

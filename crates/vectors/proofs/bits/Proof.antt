@@ -1,3 +1,4 @@
+-- Every NaN has one pattern of bits; any other float has its own.
 use mathlib.Core.Path.{_≡_, refl, sym, _∙_}
 use mathlib.Core.Bool.{true, false, not, true≢false, false≢true}
 use lib.Dec.{T}
@@ -27,17 +28,11 @@ nan-bits (fin false m k) e =
     let q = eq-eqb (m * up k * down k) (m * up k * down k) refl in
     absurd (false≢true (sym (rw q) ∙ e))
 
--- src/lib.rt:102:9
 returns : tie.Need-returns
 returns c = nan-bits (c .before .args .x) (c .if1 .taken)
 
--- src/lib.rt:104:5
 float-to-bits-result : tie.Need-float-to-bits-result
 float-to-bits-result c = number (c .before .args .x) (c .if1 .left)
 
--- src/lib.rt:98:1
-returns-2 : tie.Need-returns-2
-returns-2 c = search needs
-
 pub bits-spec : {M : Type 1} → statement M
-bits-spec = tie.close (tie.spec returns float-to-bits-result returns-2)
+bits-spec = tie.close (tie.spec returns float-to-bits-result (λ c. search needs))

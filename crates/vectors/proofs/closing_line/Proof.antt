@@ -1,44 +1,15 @@
--- `closing_line`: three pieces, one after another.
+-- What the three calls wrote, one after another, is the closing line.
 use Rattle.text.specs.Appending.{_then_}
 use Rattle.vectors.specs.Vectors.{closingLine}
 use borrow.Author.Needs.{needs}
 use Rattle.vectors.proofs.closing_line.Statement.{statement}
 use Rattle.vectors.proofs.closing_line.Tie as tie
 
-append-decimal-requires : tie.Need-append-decimal-requires
-append-decimal-requires c κs = search needs
-
-slice-aggregate-append-field : tie.Need-slice-aggregate-append-field
-slice-aggregate-append-field c = search needs
-
-append-field-requires : tie.Need-append-field-requires
-append-field-requires c κs = search needs
-
-slice-aggregate-append-bytes : tie.Need-slice-aggregate-append-bytes
-slice-aggregate-append-bytes c = search needs
-
-append-bytes-requires : tie.Need-append-bytes-requires
-append-bytes-requires c κs = search needs
-
-same-length : tie.Need-same-length
-same-length c = search needs
-
 returns : tie.Need-returns
 unfolding closingLine
-returns c =
-    let at-bytes = c .before .before in
-    let at-field = at-bytes .before .before .before .before .before in
-    let at-decimal = at-field .before .before .before .before .before in
-    at-decimal .append-decimal .ensures then at-field .append-field .ensures then at-bytes .append-bytes .ensures
+returns c = search _then_
 
 pub closing-line-spec : {M : Type 1} → statement M
 closing-line-spec =
     tie.close
-    (tie.spec
-    append-decimal-requires
-    slice-aggregate-append-field
-    append-field-requires
-    slice-aggregate-append-bytes
-    append-bytes-requires
-    same-length
-    returns)
+    (tie.spec (λ c κs. tt) (λ c. search needs) (λ c κs. tt) (λ c. search needs) (λ c κs. tt) (λ c. search needs) returns)

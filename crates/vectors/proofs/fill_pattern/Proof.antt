@@ -1,3 +1,4 @@
+-- The loop keeps Filling: the first i places hold the pattern; those left fall.
 use Prim.Native.Nat.{_-_}
 use lib.ListN.{length}
 use native.Mathlib.Omega.{arith}
@@ -14,24 +15,6 @@ abbrev μ-loop : tie.MeasureT-loop
 loop-holds : tie.Need-loop-holds Inv-loop μ-loop
 loop-holds c = filling-start _ _
 
-cast-run : tie.Need-cast-run Inv-loop μ-loop
-cast-run c = omega arith
-
-add-run : tie.Need-add-run Inv-loop μ-loop
-add-run c = omega arith
-
-mul-run : tie.Need-mul-run Inv-loop μ-loop
-mul-run c = omega arith
-
-slice-write-run : tie.Need-slice-write-run Inv-loop μ-loop
-slice-write-run c = omega arith
-
-add-i : tie.Need-add-i Inv-loop μ-loop
-add-i c = omega arith
-
-loop-less : tie.Need-loop-less Inv-loop μ-loop
-loop-less c = omega arith
-
 loop-again : tie.Need-loop-again Inv-loop μ-loop
 loop-again c = filling-turn (c .before .loop .inv) (omega arith)
 
@@ -44,16 +27,5 @@ returns c = filling-done (c .before .loop .inv) (omega arith)
 pub fill-pattern-spec : {M : Type 1} → statement M
 fill-pattern-spec =
     tie.close
-    (tie.spec
-    Inv-loop
-    μ-loop
-    loop-holds
-    cast-run
-    add-run
-    mul-run
-    slice-write-run
-    add-i
-    loop-less
-    loop-again
-    same-length
-    returns)
+    (tie.spec Inv-loop μ-loop loop-holds (λ c. omega arith) (λ c. omega arith) (λ c. omega arith) (λ c. omega arith) (λ c. omega arith)
+    (λ c. omega arith) loop-again same-length returns)

@@ -1,3 +1,4 @@
+-- The loop keeps Comparing: the first i numbers are compared; those left fall.
 use Prim.Native.Nat.{_-_}
 use lib.ListN.{length}
 use native.Mathlib.Omega.{arith}
@@ -14,27 +15,6 @@ abbrev μ-loop : tie.MeasureT-loop
 loop-holds : tie.Need-loop-holds Inv-loop μ-loop
 loop-holds c = comparing-start _ _ _
 
-mul-word4-at : tie.Need-mul-word4-at Inv-loop μ-loop
-mul-word4-at c = omega arith
-
-add-word4-at : tie.Need-add-word4-at Inv-loop μ-loop
-add-word4-at c = omega arith
-
-word4-at-requires : tie.Need-word4-at-requires Inv-loop μ-loop
-word4-at-requires c κs = omega arith
-
-mul-differ : tie.Need-mul-differ Inv-loop μ-loop
-mul-differ c = omega arith
-
-shared-slice-read-differ : tie.Need-shared-slice-read-differ Inv-loop μ-loop
-shared-slice-read-differ c = omega arith
-
-add-i : tie.Need-add-i Inv-loop μ-loop
-add-i c = omega arith
-
-loop-less : tie.Need-loop-less Inv-loop μ-loop
-loop-less c = omega arith
-
 loop-again : tie.Need-loop-again Inv-loop μ-loop
 loop-again c = comparing-turn (c .before .before .before .loop .inv) (omega arith) _ (c .before .word4-at .ensures)
 
@@ -44,16 +24,5 @@ returns c = comparing-done (c .before .loop .inv) (c .loop-test .left)
 pub numbers-differ-spec : {M : Type 1} → statement M
 numbers-differ-spec =
     tie.close
-    (tie.spec
-    Inv-loop
-    μ-loop
-    loop-holds
-    mul-word4-at
-    add-word4-at
-    word4-at-requires
-    mul-differ
-    shared-slice-read-differ
-    add-i
-    loop-less
-    loop-again
-    returns)
+    (tie.spec Inv-loop μ-loop loop-holds (λ c. omega arith) (λ c. omega arith) (λ c κs. omega arith) (λ c. omega arith) (λ c. omega arith)
+    (λ c. omega arith) (λ c. omega arith) loop-again returns)
