@@ -4,7 +4,6 @@ use native.Mathlib.Omega.{arith}
 use native.Mathlib.Nat.{sub-zero}
 use mathlib.Core.Path.{_≡_, ap, _∙_}
 use mathlib.Core.List.{List, _++_, append-assoc}
-use lib.Dec.{leb}
 use lib.ListN.{length, take, drop, length-append}
 use lib.Seq.{take-at, drop-at, drop-drop}
 use borrow.Author.Tests.{leb-true}
@@ -67,8 +66,8 @@ module _ (l p : List ℕ) where
 
   pub asks : (s : Segment) → checkedOf (acceptOf l (length p)) ≡ Valid s → Ranges s × (3 * s .cycle ≤ length p)
   asks s e =
-      let a = accept-passed l (λ t. leb (3 * t .cycle) (length p)) s (checked-valid (acceptOf l (length p)) s e) in
-      (a .0 .ranges, leb-true (3 * s .cycle) (length p) (a .1))
+      let a = accept-passed l _ s (checked-valid (acceptOf l (length p)) s e) in
+      (a .0 .ranges, leb-true (3 * s .cycle) (length p) (a .1 16))
 
   pub writes : (s : Segment) → checkedOf (acceptOf l (length p)) ≡ Valid s → (r : Discharged) (p′ : List ℕ) → r ≡ answerOf (ok s) → p′ ≡ written s p →
       Calls l p r p′

@@ -1,10 +1,10 @@
 -- The discharge call on a segment record: three profiles of C numbers each, entries in order, and the three discharge volumes.
 use Prim.Native.Nat.{ℕ, _+_, _*_}
 use mathlib.Core.Path.{_≡_}
-use mathlib.Core.List.{List, _++_}
+use mathlib.Core.List.{List, [], _∷_, _++_}
 use lib.Dec.{leb}
 use lib.ListN.{length, take, drop}
-use Rattle.refusal.specs.Refusal.{Or, refused, ok}
+use Rattle.refusal.specs.Refusal.{Or, refused, ok, test}
 use Rattle.segment.specs.declared.Segment.{Segment}
 use Rattle.segment.specs.Segment.{segmentOf}
 use Rattle.validation.specs.Accepting.{acceptWith}
@@ -15,7 +15,7 @@ use Rattle.discharge.specs.declared.Discharged.the-variants.{Refused, Vo
 
 -- the places record and lent profiles, and no other
 abbrev pub acceptOf : List ℕ → ℕ → Or Segment
-acceptOf l room = acceptWith l (λ s. leb (3 * s .cycle) room)
+acceptOf l room = acceptWith l (λ s. test 16 (leb (3 * s .cycle) room) ∷ [])
 
 -- the answer's cases: the paper's number, or the three discharge volumes
 abbrev pub answerOf : Or Segment → Discharged

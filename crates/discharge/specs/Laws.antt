@@ -3,9 +3,11 @@ use Prim.Native.Nat.{ℕ, _+_, _*_, _<_}
 use native.Mathlib.Omega.{arith}
 use mathlib.Core.Path.{_≡_, refl, sym, ap, _∙_}
 use mathlib.Core.List.{List, _++_}
+use lib.Dec.{ltb}
 use lib.ListN.{length, take, drop}
 use lib.Seq.{take-at, drop-at, drop-drop}
-use Rattle.refusal.specs.Refusal.{Or, refused, ok}
+use borrow.Author.Tests.{ltb-true}
+use Rattle.refusal.specs.Refusal.{Or, refused, ok, false-true}
 use Rattle.segment.specs.declared.Segment.{Segment}
 use Rattle.segment.specs.Segment.{segmentOf}
 use Rattle.ranges.specs.Ranges.{Ranges}
@@ -43,7 +45,7 @@ unfolding written
 entries-discharge l p r p′ er ep left through right e = go (acceptOf l (length p)) refl er ep
   where
     go : (x : Or Segment) → acceptOf l (length p) ≡ x → r ≡ answerOf x → p′ ≡ profileAfter x p → EntriesDischarge (segmentOf l) left through right p′
-    go (refused n) q er ep = absurd (let z : _≡_ {A = ℕ} 0 1 = cc in omega arith)
+    go (refused n) q er ep = false-true (cc)
     go (ok s) q er ep =
         let a = accept-passed l _ s q .0 in
         let el : left ≡ dischargeVolume (s .cycle) (s .left) = cc in
@@ -62,5 +64,5 @@ refused-above l room n = go (acceptOf l room) refl
     go : (x : Or Segment) → acceptOf l room ≡ x → answerOf x ≡ Refused n → 0 < n
     go (refused m) q e =
         let same : m ≡ n = cc in
-        accept-numbers l _ (λ k. 0 < k) (λ k low high. omega arith) (omega arith) n (q ∙ ap (λ (k : ℕ). refused k) same)
-    go (ok s) q e = absurd (let z : _≡_ {A = ℕ} 0 1 = cc in omega arith)
+        ltb-true 0 n (accept-numbers l _ (λ k holds. ltb 0 k) refl (λ s. refl) n (q ∙ ap (λ (k : ℕ). refused k) same))
+    go (ok s) q e = false-true (cc)

@@ -1,15 +1,15 @@
 -- A record that passed the tests.
 use Prim.Native.Nat.{ℕ}
-use mathlib.Core.Path.{_≡_}
+use mathlib.Core.Path.{_≡_, sym}
 use mathlib.Core.List.{List}
 use lib.ListN.{length}
 use borrow.Author.Tests.{eqb-true}
-use Rattle.refusal.specs.Refusal.{ok, need-passed, need-rest}
+use Rattle.refusal.specs.Refusal.{ok, all-hold, all-answer}
 use Rattle.segment.specs.declared.Segment.{Segment}
 use Rattle.segment.specs.Layout.{size}
 use Rattle.segment.specs.Segment.{segmentOf}
 use Rattle.ranges.specs.Ranges.{Ranges, tests-ranges}
-use Rattle.validation.specs.Validation.{checkOf}
+use Rattle.validation.specs.Validation.{recordTests, checkOf}
 
 -- a record that is accepted has the bytes that were tested, in their ranges
 pub record Accepted (l : List ℕ) (s : Segment) : Type 0 where
@@ -19,18 +19,11 @@ pub record Accepted (l : List ℕ) (s : Segment) : Type 0 where
 
 pub accepted : (l : List ℕ) (s : Segment) → checkOf l ≡ ok s → Accepted l s
 unfolding checkOf
-accepted l s e6 =
-    let e7 = need-rest 6 _ _ s e6 in
-    let e8 = need-rest 7 _ _ s e7 in
-    let e9 = need-rest 8 _ _ s e8 in
-    let e10 = need-rest 9 _ _ s e9 in
-    let e11 = need-rest 10 _ _ s e10 in
-    let e12 = need-rest 11 _ _ s e11 in
-    let last = need-rest 12 _ _ s e12 in
-    let is : segmentOf l ≡ s = cc in
+accepted l s e =
+    let is = all-answer (recordTests l (segmentOf l)) (segmentOf l) s e in
+    let holds = all-hold (recordTests l (segmentOf l)) (segmentOf l) s e in
     record {
-      sized = eqb-true (length l) size (need-passed 6 _ _ s e6);
-      is = cc;
-      ranges = rw is at (tests-ranges (segmentOf l) (need-passed 7 _ _ s e7) (need-passed 8 _ _ s e8) (need-passed 9 _ _ s e9) (need-passed 10 _ _ s e10)
-          (need-passed 11 _ _ s e11) (need-passed 12 _ _ s e12));
+      sized = eqb-true (length l) size (holds 6);
+      is = sym is;
+      ranges = rw is at (tests-ranges (segmentOf l) (holds 7) (holds 8) (holds 9) (holds 10) (holds 11) (holds 12));
     }

@@ -1,17 +1,19 @@
 -- Sixteen zero seeds are never refused with 12: Exhibit 30-2 stands in for them, and each of its rows adds to 100.
 use Prim.Native.Nat.{ℕ, _+_, _<_}
 use native.Mathlib.Omega.{arith}
-use mathlib.Core.Bool.{true}
-use mathlib.Core.Path.{_≡_, refl}
+use mathlib.Core.Bool.{true, not, _||_}
+use mathlib.Core.Path.{_≡_}
 use mathlib.Core.List.{List}
+use lib.Dec.{eqb}
 use lib.ListN.{getD}
+use Rattle.refusal.specs.Refusal.{false-true, refused-number}
 use Rattle.segment.specs.Layout.{seedsAt, rowOf, tableOf}
 use Rattle.segment.specs.Segment.{zeroRow, zeroSeeds, seedsOf, segmentOf}
 use Rattle.ranges.specs.Tests.{seedsAdd, exhibit-adds}
 use Rattle.validation.specs.declared.Checked.{Checked}
 use Rattle.validation.specs.declared.Checked.the-variants.{Refused}
-use Rattle.validation.specs.Validation.{checkOf, checkedOf}
-use Rattle.validation.specs.Accepting.{checked-refused, check-by}
+use Rattle.validation.specs.Validation.{recordTests, checkOf, checkedOf}
+use Rattle.validation.specs.Accepting.{checked-refused}
 
 -- a record's sixteen seeds, all zero
 pub record ZeroSeeds (l : List ℕ) : Type 0 where
@@ -42,6 +44,7 @@ seeds-add l z = rw (table-zero l z) exhibit-adds
 
 -- whatever the other fields, the check refuses by another number or not at all
 pub exhibit-stands : (l : List ℕ) → ZeroSeeds l → (r : Checked) → r ≡ checkedOf (checkOf l) → r ≡ Refused 12 → ⊥
+unfolding checkOf
 exhibit-stands l z r e q =
-    check-by (λ m. m ≡ 12 → ⊥) (λ m low high same. omega arith) l (λ f. absurd (let n : _≡_ {A = ℕ} 0 1 = cc (seeds-add l z) in omega arith)) 12
-    (checked-refused (checkOf l) 12 (cc)) refl
+    false-true (refused-number (λ n holds. not (eqb n 12) || holds) (recordTests l (segmentOf l)) (segmentOf l) 12 (rw (seeds-add l z))
+    (checked-refused (checkOf l) 12 (cc)))

@@ -1,9 +1,9 @@
 -- The refusals 6 to 12, which test every field of a record but its number.
 use Prim.Native.Nat.{ℕ}
-use mathlib.Core.List.{List}
+use mathlib.Core.List.{List, [], _∷_}
 use lib.Dec.{eqb}
 use lib.ListN.{length}
-use Rattle.refusal.specs.Refusal.{Or, refused, ok, need}
+use Rattle.refusal.specs.Refusal.{Or, refused, ok, Test, test, firstFailing}
 use Rattle.segment.specs.declared.Segment.{Segment}
 use Rattle.segment.specs.Layout.{size}
 use Rattle.segment.specs.Segment.{segmentOf}
@@ -12,16 +12,19 @@ use Rattle.validation.specs.declared.Checked.{Checked}
 use Rattle.validation.specs.declared.Checked.the-variants.{Refused, Valid}
 
 -- the place "card": a record of so many bytes whose fields lie in their ranges
+abbrev pub recordTests : List ℕ → Segment → List Test
+recordTests l s =
+    test 6 (eqb (length l) size)
+    ∷ test 7 (cycleFits s)
+    ∷ test 8 (runningFits s)
+    ∷ test 9 (headwayFits s)
+    ∷ test 10 (volumesFit s)
+    ∷ test 11 (greensFit s)
+    ∷ test 12 (seedsAdd (s .seeds))
+    ∷ []
+
 unfoldable pub checkOf : List ℕ → Or Segment
-checkOf l =
-    need 6 (eqb (length l) size)
-    (need 7 (cycleFits (segmentOf l))
-    (need 8 (runningFits (segmentOf l))
-    (need 9 (headwayFits (segmentOf l))
-    (need 10 (volumesFit (segmentOf l))
-    (need 11 (greensFit (segmentOf l))
-    (need 12 (seedsAdd (segmentOf l .seeds))
-    (ok (segmentOf l))))))))
+checkOf l = firstFailing (recordTests l (segmentOf l)) (segmentOf l)
 
 -- the answer's cases: the paper's number, or the record
 abbrev pub checkedOf : Or Segment → Checked

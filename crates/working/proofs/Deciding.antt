@@ -1,14 +1,13 @@
 -- The ways of the call, over plain variables; and demand 3 of every one that works.
 use Prim.Native.Nat.{ℕ, _*_}
-use native.Mathlib.Omega.{arith}
-use mathlib.Core.Bool.{Bool, true, false, _&&_, cond}
+use mathlib.Core.Bool.{Bool, true, false, not, _&&_, cond}
 use mathlib.Core.Path.{_≡_, refl, ap, sym, subst, _∙_}
 use mathlib.Core.List.{List}
 use lib.Dec.{leb, eqb}
 use lib.Ieee.{Float}
 use lib.ListN.{length, drop}
-use borrow.Author.Tests.{leb-true, eqb-true, ne-eqb}
-use Rattle.refusal.specs.Refusal.{Or, refused, ok, both}
+use borrow.Author.Tests.{leb-true, eqb-true, not-true}
+use Rattle.refusal.specs.Refusal.{Or, refused, ok, both, false-true}
 use Rattle.segment.specs.declared.Segment.{Segment}
 use Rattle.segment.specs.Segment.{segmentOf}
 use Rattle.validation.specs.declared.Checked.the-variants as checked
@@ -80,8 +79,8 @@ module _ (s : Segment) (p : Profiles) where
 -- ---- what the record decides
 
 never : (b : Bool) (y x : Float) (n : ℕ) → _≡_ {A = Outcome} (cond b (Unsettled y) (Refused n)) (Worked x) → ⊥
-never true y x n e = let z : _≡_ {A = ℕ} 0 1 = cc in omega arith
-never false y x n e = let z : _≡_ {A = ℕ} 0 1 = cc in omega arith
+never true y x n e = false-true (cc)
+never false y x n e = false-true (cc)
 
 module _ (l : List ℕ) (p : Profiles) where
   abbrev accepts : Or Segment
@@ -91,7 +90,7 @@ module _ (l : List ℕ) (p : Profiles) where
   passed s e =
       let a = accept-passed l _ s e in
       let c = s .cycle in
-      let t = both (leb (4 * c) (length (p .output)) && leb c (length (p .first))) (leb c (length (p .second))) (a .1) in
+      let t = both (leb (4 * c) (length (p .output)) && leb c (length (p .first))) (leb c (length (p .second))) (a .1 16) in
       let u = both (leb (4 * c) (length (p .output))) (leb c (length (p .first))) (t .0) in
       (a .0, record { output = leb-true _ _ (u .0); first = leb-true _ _ (u .1); second = leb-true _ _ (t .1) })
 
@@ -124,9 +123,8 @@ module _ (l : List ℕ) (p : Profiles) where
   -- refused for its record or a profile's length, so not by 0 or 15
   own-case : (n : ℕ) → accepts ≡ refused n → outcomeOf n zero64 ≡ Refused n
   own-case n e =
-      let k = accept-numbers l _ (λ m. (eqb m 0 ≡ false) × (eqb m 15 ≡ false))
-      (λ m low high. (ne-eqb m 0 (λ q. (omega arith)), ne-eqb m 15 (λ q. (omega arith)))) (refl, refl) n e in
-      rw (k .0, k .1)
+      let k = both (not (eqb n 0)) (not (eqb n 15)) (accept-numbers l _ (λ m holds. not (eqb m 0) && not (eqb m 15)) refl (λ s. refl) n e) in
+      rw (not-true (eqb n 0) (k .0), not-true (eqb n 15) (k .1))
 
   pub record-refused : (n : ℕ) → checkedOf accepts ≡ checked.Refused n → (w : Working) → w ≡ refusedWith (Refused n) → Works l p w p
   unfolding callOf

@@ -2,11 +2,11 @@
 use Prim.Native.Nat.{ℕ, _*_}
 use mathlib.Core.Bool.{Bool, _&&_, cond}
 use mathlib.Core.Path.{_≡_}
-use mathlib.Core.List.{List}
+use mathlib.Core.List.{List, [], _∷_}
 use lib.Dec.{leb, eqb}
 use lib.Ieee.{Float}
 use lib.ListN.{length}
-use Rattle.refusal.specs.Refusal.{Or, refused, ok}
+use Rattle.refusal.specs.Refusal.{Or, refused, ok, test}
 use Rattle.segment.specs.declared.Segment.{Segment}
 use Rattle.segment.specs.Segment.{segmentOf}
 use Rattle.validation.specs.Accepting.{acceptWith}
@@ -25,7 +25,7 @@ fits output first second s = leb (4 * s .cycle) output && leb (s .cycle) first &
 
 -- the places record and lent profiles
 abbrev pub acceptOf : List ℕ → (output first second : ℕ) → Or Segment
-acceptOf l output first second = acceptWith l (fits output first second)
+acceptOf l output first second = acceptWith l (λ s. test 16 (fits output first second s) ∷ [])
 
 -- the place volumes: the sixteen pair flows, or 13, 14, 15
 unfoldable pub sharingOf : Segment → Told

@@ -1,9 +1,7 @@
 -- The record's refusals, then 16 where three cycles do not fit the room.
-use Prim.Native.Nat.{_*_}
+use Prim.Native.Nat.{_*_, _<_}
 use native.Mathlib.Omega.{arith}
-use mathlib.Core.Path.{_∙_, sym}
-use borrow.Author.Tests.{le-leb, lt-leb}
-use Rattle.validation.specs.Accepting.{accept-refused, accept-short, accept-valid}
+use Rattle.validation.specs.Ladder.{ladder}
 use borrow.Author.Needs.{needs}
 use Rattle.discharge.proofs.accept.Statement.{statement}
 use Rattle.discharge.proofs.accept.Tie as tie
@@ -26,24 +24,16 @@ mul-if1 c = search needs
 returns : tie.Need-returns
 returns c =
     let at-valid = c .before .before .before in
-    let at-check = at-valid .before .before in
-    let start = at-check .before .before in
-    accept-short _ _ _ (sym (at-check .check .ensures) ∙ at-valid .checked2 .given .1)
-    (lt-leb (3 * at-valid .checked2 .given .0 .0 .cycle) (start .args .room) (omega (arith, c .if1 .taken)))
+    let start = at-valid .before .before .before .before in
+    -- by arithmetic, so that too small a room is refused where it is taken for enough
+    let short : start .args .room < 3 * at-valid .checked2 .given .0 .0 .cycle = omega (arith, c .if1 .taken) in
+    search ladder depth 30
 
 returns-2 : tie.Need-returns-2
-returns-2 c =
-    let at-refused = c .before in
-    let at-check = at-refused .before .before in
-    accept-refused _ _ _ (sym (at-check .check .ensures) ∙ at-refused .checked .given .1)
+returns-2 c = search ladder depth 30
 
 returns-3 : tie.Need-returns-3
-returns-3 c =
-    let at-valid = c .before .before .before in
-    let at-check = at-valid .before .before in
-    let start = at-check .before .before in
-    accept-valid _ _ _ (sym (at-check .check .ensures) ∙ at-valid .checked2 .given .1)
-    (le-leb (3 * at-valid .checked2 .given .0 .0 .cycle) (start .args .room) (omega (arith, c .if1 .left)))
+returns-3 c = search ladder depth 30
 
 pub accept-spec : {M : Type 1} → statement M
 accept-spec =

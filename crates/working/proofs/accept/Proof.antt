@@ -1,5 +1,5 @@
-use mathlib.Core.Path.{_∙_, sym}
-use Rattle.validation.specs.Accepting.{accept-refused, accept-short, accept-valid}
+-- The record's refusals, then 16 where a lent profile has no room for its cycle.
+use Rattle.validation.specs.Ladder.{ladder}
 use borrow.Author.Needs.{needs}
 use Rattle.working.proofs.accept.Statement.{statement}
 use Rattle.working.proofs.accept.Tie as tie
@@ -20,13 +20,13 @@ mul-fits : tie.Need-mul-fits
 mul-fits c = search needs
 
 returns : tie.Need-returns
-returns c = accept-valid _ _ _ (sym (c .before .before .before .before .before .check .ensures) ∙ c .before .before .before .checked2 .given .1) (c .if1 .taken)
+returns c = search ladder depth 30
 
 returns-2 : tie.Need-returns-2
-returns-2 c = accept-refused _ _ _ (sym (c .before .before .before .check .ensures) ∙ c .before .checked .given .1)
+returns-2 c = search ladder depth 30
 
 returns-3 : tie.Need-returns-3
-returns-3 c = accept-short _ _ _ (sym (c .before .before .before .before .before .check .ensures) ∙ c .before .before .before .checked2 .given .1) (c .if1 .left)
+returns-3 c = search ladder depth 30
 
 pub accept-spec : {M : Type 1} → statement M
 accept-spec =
