@@ -48,8 +48,8 @@ module _ (s : Segment) (p : Profiles) {d : Decision} (e : d ≡ decisionFor s) w
   unsettled-is x eo ew = rw (← e, ew, eo)
 
   module _ (x : Float) (eo : d .outcome ≡ Worked x) {rows : List (List ℕ)} (er : rows ≡ d .pairs .rows) where
-    pub fill-asks : Ranges s → Room (s .cycle) p → FillFits s rows p
-    fill-asks r m = record { ranges = r; shares = rw (er, e) (rows-fit s (ap refusalOf (rw e at eo))); room = m }
+    pub fill-asks : Ranges s → Room (s .cycle) p → {o : Counts} → o ≡ dischargeVolumes s → FillFits s o rows p
+    fill-asks r m ev = record { ranges = r; volumes = ev; shares = rw (er, e) (rows-fit s (ap refusalOf (rw e at eo))); room = m }
 
     pub filled : Ranges s → (p′ : Profiles) → p′ ≡ filledOf s rows p → Filled s (d .pairs .rows) (p′ .output)
     unfolding filledOf

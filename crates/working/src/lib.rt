@@ -34,7 +34,8 @@ fn work_accepted(s: Segment, output: &mut [u32], first: &mut [u32], second: &mut
     requires { ⌜ Ranges s × Room (s .cycle) (profiles (now output) (now first) (now second)) ⌝ }
     ensures { λ r. ⌜ called r (profiles (now (output .exit)) (now (first .exit)) (now (second .exit))) ≡ byDecision s (decisionFor s) (profiles (now (output .entry)) (now (first .entry)) (now (second .entry))) ⌝ }
 {
-    let decision = balance_decision::decide(metering::discharge_volumes(s), s.exits, s.seeds);
+    let o = metering::discharge_volumes(s);
+    let decision = balance_decision::decide(o, s.exits, s.seeds);
     let outcome = decision.outcome;
     match outcome {
         Outcome::Refused(_) => working_outcome::refused(outcome),
@@ -42,6 +43,7 @@ fn work_accepted(s: Segment, output: &mut [u32], first: &mut [u32], second: &mut
         Outcome::Worked(sum) => {
             propagation::fill(
                 s,
+                o,
                 pair_flows::rows_of(decision.pairs),
                 output,
                 first,

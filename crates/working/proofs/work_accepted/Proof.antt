@@ -56,7 +56,7 @@ fill-requires c κs =
     let r = c .before .before .before in
     let d = decide-of r in
     let pre = start (d .before) .pre in
-    fill-asks _ _ (decided d) _ (r .before .before .outcome .given .1) (r .rows-of .ensures) (pre .0) (pre .1)
+    fill-asks _ _ (decided d) _ (r .before .before .outcome .given .1) (r .rows-of .ensures) (pre .0) (pre .1) (d .before .discharge-volumes .ensures)
 
 worked-requires : tie.Need-worked-requires
 worked-requires c κs =
