@@ -46,21 +46,9 @@ cellsOf origins b p =
       access = cellRow (origins .access) b (p .access);
     }
 
--- the outcome's cases: the paper's number, 0 where settled, and the last sum of differences reached
+-- the settling's cases: the paper's number, 0 where settled, and the last sum of differences reached
 abbrev pub settlingOf : (number : ℕ) → (sum : Float) → Settling
 settlingOf number sum = cond (eqb number 0) (Settled sum) (Unsettled sum)
-
-abbrev pub numberOf : Settling → ℕ
-numberOf (Settled sum) = 0
-numberOf (Unsettled sum) = 15
-
-abbrev pub lastSumOf : Settling → Float
-lastSumOf (Settled sum) = sum
-lastSumOf (Unsettled sum) = sum
-
-pub settling-whole : (k : Settling) → settlingOf (numberOf k) (lastSumOf k) ≡ k
-settling-whole (Settled sum) = refl
-settling-whole (Unsettled sum) = refl
 
 -- unsettled, 15, with the last sum reached; no cells
 abbrev pub unsettled : Float → ℕ → Balance

@@ -1,2 +1,3 @@
-pub mod Sharing
+pub mod Outcome
+pub mod Decision
 pub mod Meaning

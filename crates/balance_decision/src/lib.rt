@@ -2,77 +2,88 @@
 // A lower layer's crate: its functions ask that no entry discharges more than 6000 veh/h.
 ghost use mathlib.Core.Path.{_≡_};
 ghost use Rattle.balance_pairs.specs.Pairs.{WithinLimit};
-ghost use Rattle.balance_decision.specs.Sharing.{numberOf, lastSumOf, told, refusal, settledTo, sharing};
+ghost use Rattle.balance_decision.specs.Outcome.{lastSumOf, refusalOf};
+ghost use Rattle.balance_decision.specs.Decision.{decisionOf, settledTo, undecided};
 use balance::Balance;
 use balance::Settling;
 use movements::Counts;
 use movements::Seeds;
 use pair_flows::PairFlows;
 
-// The paper's numbers: none, 13, 14, 15. Shared and unsettled tell the last sum of differences.
-pub enum Verdict {
-    Shared(f64),
-    NoVolume,
-    Unserved,
+// Worked and unsettled, 15, tell the last sum of differences; a refusal tells the paper's number.
+pub enum Outcome {
+    Worked(f64),
+    Refused(u32),
     Unsettled(f64),
 }
 
 // Where refused, 15 too, no rounds are told and the pair flows are all 0.
-pub struct Sharing {
-    pub verdict: Verdict,
+pub struct Decision {
+    pub outcome: Outcome,
     pub rounds: u32,
     pub pairs: PairFlows,
 }
 
-pub fn number_of(v: Verdict) -> u32
-    ensures { λ r. ⌜ r ≡ numberOf v ⌝ }
+// The paper's number, 0 where worked.
+pub fn refusal_of(outcome: Outcome) -> u32
+    ensures { λ r. ⌜ r ≡ refusalOf outcome ⌝ }
 {
-    match v {
-        Verdict::Shared(_) => 0,
-        Verdict::NoVolume => 13,
-        Verdict::Unserved => 14,
-        Verdict::Unsettled(_) => 15,
+    match outcome {
+        Outcome::Worked(_) => 0,
+        Outcome::Refused(n) => n,
+        Outcome::Unsettled(_) => 15,
     }
 }
 
-fn none(verdict: Verdict) -> Sharing
-    ensures { λ r. ⌜ told r ≡ refusal (numberOf verdict) (lastSumOf verdict) ⌝ }
+// 0 where the outcome tells none.
+pub fn last_sum_of(outcome: Outcome) -> f64
+    ensures { λ r. ⌜ r ≡ lastSumOf outcome ⌝ }
 {
-    Sharing {
-        verdict,
+    match outcome {
+        Outcome::Worked(sum) => sum,
+        Outcome::Refused(_) => 0.0,
+        Outcome::Unsettled(sum) => sum,
+    }
+}
+
+fn undecided(outcome: Outcome) -> Decision
+    ensures { λ r. ⌜ r ≡ undecided outcome ⌝ }
+{
+    Decision {
+        outcome,
         rounds: 0,
         pairs: pair_flows::from_rows([[0u32; 4]; 4]),
     }
 }
 
-fn shared(o: Counts, b: Balance) -> Sharing
+fn settled_to(o: Counts, b: Balance) -> Decision
     requires { ⌜ WithinLimit o ⌝ }
-    ensures { λ r. ⌜ told r ≡ settledTo o b ⌝ }
+    ensures { λ r. ⌜ r ≡ settledTo o b ⌝ }
 {
     let settling = b.settling;
     match settling {
-        Settling::Settled(sum) => Sharing {
-            verdict: Verdict::Shared(sum),
+        Settling::Settled(sum) => Decision {
+            outcome: Outcome::Worked(sum),
             rounds: b.rounds,
             pairs: pair_flows::from_rows(balance_pairs::pair_rows(b.cells, o)),
         },
-        Settling::Unsettled(sum) => none(Verdict::Unsettled(sum)),
+        Settling::Unsettled(sum) => undecided(Outcome::Unsettled(sum)),
     }
 }
 
 // The refusals in their order, then the settling and its pair flows.
-pub fn decide(o: Counts, exits: Counts, seeds: Seeds) -> Sharing
+pub fn decide(o: Counts, exits: Counts, seeds: Seeds) -> Decision
     requires { ⌜ WithinLimit o ⌝ }
-    ensures { λ r. ⌜ told r ≡ sharing o exits seeds ⌝ }
+    ensures { λ r. ⌜ r ≡ decisionOf o exits seeds ⌝ }
 {
     let empty = balance_refusals::no_volume(o, exits);
     let unserved = balance_refusals::any_unserved_entry(o, exits, seeds)
         | balance_refusals::any_unserved_exit(o, exits, seeds);
     if empty {
-        return none(Verdict::NoVolume);
+        return undecided(Outcome::Refused(13));
     }
     if unserved {
-        return none(Verdict::Unserved);
+        return undecided(Outcome::Refused(14));
     }
-    shared(o, balance::balanced(o, exits, seeds))
+    settled_to(o, balance::balanced(o, exits, seeds))
 }

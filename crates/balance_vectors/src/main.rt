@@ -6,7 +6,7 @@ ghost use lib.ListN.{length};
 ghost use Rattle.balance_pairs.specs.Pairs.{WithinLimit};
 use balance::Balance;
 use balance::Settling;
-use balance_decision::Verdict;
+use balance_decision::Outcome;
 use balance_flows::FlowTable;
 use balance_flows::Flows;
 use movements::Counts;
@@ -103,18 +103,17 @@ fn unrun_differs(s: &[u8]) -> bool
     outcome_differs(s, 2, 0) | vectors::float_differs(s, 60, 0.0) | cells_differ(s, 68, table)
 }
 
-fn verdict_differs(s: &[u8], verdict: Verdict, rounds: u32, b: Balance) -> bool
+fn decision_differs(s: &[u8], outcome: Outcome, rounds: u32, b: Balance) -> bool
     requires { ⌜ 260 ≤ length (now s) ⌝ }
 {
-    match verdict {
-        Verdict::Shared(sum) => {
+    match outcome {
+        Outcome::Worked(sum) => {
             balance_differs(s, b) | vectors::float_differs(s, 60, sum) | (rounds != b.rounds)
         }
-        Verdict::Unsettled(sum) => {
+        Outcome::Unsettled(sum) => {
             balance_differs(s, b) | vectors::float_differs(s, 60, sum) | (rounds != 0)
         }
-        Verdict::NoVolume => unrun_differs(s) | (rounds != 0),
-        Verdict::Unserved => unrun_differs(s) | (rounds != 0),
+        Outcome::Refused(_) => unrun_differs(s) | (rounds != 0),
     }
 }
 
@@ -123,10 +122,10 @@ fn answer_differs(s: &[u8], o: Counts, exits: Counts, seeds: Seeds) -> bool
     requires { ⌜ WithinLimit o ⌝ }
 {
     let x = balance_decision::decide(o, exits, seeds);
-    let verdict = x.verdict;
-    (octets::word4_at(s, 48) != balance_decision::number_of(verdict))
+    let outcome = x.outcome;
+    (octets::word4_at(s, 48) != balance_decision::refusal_of(outcome))
         | vectors::rows_differ(s, 196, pair_flows::rows_of(x.pairs))
-        | verdict_differs(s, verdict, x.rounds, balance::balanced(o, exits, seeds))
+        | decision_differs(s, outcome, x.rounds, balance::balanced(o, exits, seeds))
 }
 
 // A discharge out of range differs.

@@ -13,7 +13,8 @@ use Rattle.validation.specs.declared.Checked.the-variants.{Refused, Valid}
 use Rattle.validation.specs.Validation.{checkedOf}
 use Rattle.validation.specs.Accepting.{checked-refused, checked-valid, accept-passed}
 use Rattle.ranges.specs.Ranges.{Ranges}
-use Rattle.metering.specs.Metering.{dischargeVolume}
+use Rattle.movements.specs.declared.Counts.{Counts}
+use Rattle.metering.specs.Metering.{dischargeVolumes}
 use Rattle.discharge.specs.declared.Discharged.{Discharged}
 use Rattle.discharge.specs.declared.Discharged.the-variants as d
 use Rattle.entries.specs.Entries.{entryProfile}
@@ -53,9 +54,9 @@ all-written s p y1 y2 y3 e1 e2 e3 =
     ∙ rw (e1, e2, e3)
 
 -- the three volumes
-pub all-answered : (s : Segment) (o₁ o₂ o₃ : ℕ) → o₁ ≡ dischargeVolume (s .cycle) (s .left) → o₂ ≡ dischargeVolume (s .cycle) (s .through) →
-    o₃ ≡ dischargeVolume (s .cycle) (s .right) → d.Volumes o₁ o₂ o₃ ≡ answerOf (ok s)
-all-answered s o₁ o₂ o₃ e1 e2 e3 = rw (e1, e2, e3)
+pub all-answered : (s : Segment) {o : Counts} → o ≡ dischargeVolumes s → d.Volumes (o .left) (o .through) (o .right) ≡ answerOf (ok s)
+unfolding dischargeVolumes
+all-answered s e = rw e
 
 -- the call from what it decided
 module _ (l p : List ℕ) where

@@ -39,13 +39,14 @@ fn write(s: Segment, profile: &mut [u32]) -> Discharged
     let one = s.cycle as usize;
     let two = one + one;
     let three = two + one;
-    let left = entries::discharge_entry(s.cycle, s.left, &mut profile[0..one]);
-    let through = entries::discharge_entry(s.cycle, s.through, &mut profile[one..two]);
-    let right = entries::discharge_entry(s.cycle, s.right, &mut profile[two..three]);
+    let o = metering::discharge_volumes(s);
+    entries::fill_profile(s.cycle, s.left, o.left, &mut profile[0..one]);
+    entries::fill_profile(s.cycle, s.through, o.through, &mut profile[one..two]);
+    entries::fill_profile(s.cycle, s.right, o.right, &mut profile[two..three]);
     Discharged::Volumes {
-        left,
-        through,
-        right,
+        left: o.left,
+        through: o.through,
+        right: o.right,
     }
 }
 

@@ -3,16 +3,26 @@ use Prim.Native.Nat.{ℕ, min, _≤_, _<_}
 use mathlib.Core.Bool.{false}
 use mathlib.Core.Path.{_≡_}
 use mathlib.Core.List.{List}
+use lib.ListN.{length}
+use Rattle.limits.specs.Limits.{leastCycle, mostCycle}
 use Rattle.lists.specs.Lists.{sum, numberAt}
 use Rattle.movements.specs.Movements.{flowUnits}
 use Rattle.signal.specs.Greens.{greenStep, inGreen}
 use Rattle.segment.specs.declared.Entry.{Entry}
+use Rattle.ranges.specs.Ranges.{EntryRanges}
 use Rattle.metering.specs.Metering.{dischargeVolume}
 use Rattle.platoon.specs.Discharge.{carried, greenArrivals, profileOf}
 use Rattle.platoon.specs.Steps.{waitsIn}
 
 unfoldable pub entryProfile : ℕ → Entry → List ℕ
 entryProfile c e = profileOf c (e .green) (e .saturation) (e .arriving) (dischargeVolume c e)
+
+-- what a profile is filled from: the record's cycle and entry, the discharge volume, and a run of the cycle's length
+pub record ProfileFits (c : ℕ) (e : Entry) (o : ℕ) (run : List ℕ) : Type 0 where
+  pub cycle : (leastCycle ≤ c) × (c ≤ mostCycle)
+  pub entry : EntryRanges c e
+  pub volume : o ≡ dischargeVolume c e
+  pub long : length run ≡ c
 
 -- what the paper says of an entry's discharge, read from a run of C numbers: o is the discharge volume, so that a cycle carries T
 pub record EntryDischarge (c : ℕ) (e : Entry) (o : ℕ) (run : List ℕ) : Type 0 where

@@ -1,10 +1,10 @@
 // The README's examples, run: a record is tested, filed with a title, found again, printed and worked.
 use archive_format::Answer;
 use archive_format::TitlePart;
+use balance_decision::Outcome;
 use discharge::Discharged;
 use libc::STDOUT_FILENO;
 use validation::Checked;
-use working_outcome::Outcome;
 
 // The paper's record 1: cycle 60, running time 40000 ms, headway 4100 ms, 360 veh/h in by access and out through.
 fn record() -> [u8; 68] {

@@ -2,17 +2,13 @@
 use Prim.Native.Nat.{ℕ}
 use mathlib.Core.Path.{_≡_}
 use mathlib.Core.List.{List}
-use lib.Ieee.{Float}
 use lib.ListN.{length}
 use Rattle.refusal.specs.Refusal.{Or}
-use Rattle.balance_flows.specs.Flows.{zero64}
 use Rattle.segment.specs.Segment.{segmentOf}
 use Rattle.propagation.specs.Propagation.{Profiles}
 use Rattle.accuracy.specs.Accuracy.{Accurate}
-use Rattle.working_outcome.specs.declared.Outcome.{Outcome}
-use Rattle.working_outcome.specs.declared.Outcome.the-variants.{Worked, Refused as RefusedWork, Unsettled}
 use Rattle.working_outcome.specs.declared.Working.{Working}
-use Rattle.working_outcome.specs.Outcome.{numberOf}
+use Rattle.balance_decision.specs.Outcome.{refusalOf, lastSumOf}
 use Rattle.working.specs.Working.{callOf}
 use Rattle.discharge.specs.declared.Discharged.{Discharged}
 use Rattle.discharge.specs.declared.Discharged.the-variants.{Refused as RefusedVolumes, Volumes}
@@ -27,18 +23,13 @@ use Rattle.exports.specs.declared.VolumesAnswer.{VolumesAnswer}
 use Rattle.exports.specs.declared.ValueAnswer.{ValueAnswer}
 use Rattle.exports.specs.declared.TitleAnswer.{TitleAnswer}
 
--- the last sum beside an outcome's number: 0 and 15 tell it
-abbrev pub sumOf : Outcome → Float
-sumOf (Worked sum) = sum
-sumOf (RefusedWork number) = zero64
-sumOf (Unsettled sum) = sum
-
+-- 0 and 15 tell the last sum
 abbrev pub workAnswer : Working → WorkAnswer
 workAnswer w =
     record {
-      number = numberOf (w .outcome);
+      number = refusalOf (w .outcome);
       rounds = w .rounds;
-      sum = sumOf (w .outcome);
+      sum = lastSumOf (w .outcome);
       arrival = w .arrival;
       blocked = w .blocked;
       pairs = w .pairs;
@@ -52,7 +43,7 @@ workAnswer w =
 pub record SegmentWorks (l : List ℕ) (p : Profiles) (r : WorkAnswer) (p′ : Profiles) : Type 0 where
   pub answer : r ≡ workAnswer (callOf l p .answer)
   pub after : p′ ≡ callOf l p .after
-  pub demand : r .number ≡ 0 → Accurate (segmentOf l) (r .pairs .rows) p′
+  pub accurate : r .number ≡ 0 → Accurate (segmentOf l) (r .pairs .rows) p′
 
 abbrev pub volumesAnswer : Discharged → VolumesAnswer
 volumesAnswer (RefusedVolumes n) = record { number = n; left = 0; through = 0; right = 0 }

@@ -1,23 +1,22 @@
--- What the answers in numbers mean: number and sum say the outcome, 0 is an accepted working, the part told of an archive is the title.
+-- What the answers in numbers mean: 0 is an accepted working, the part told of an archive is the title.
 use Prim.Native.Nat.{ℕ, _<_}
 use native.Mathlib.Omega.{arith}
-use mathlib.Core.Bool.{Bool, true, false, cond}
 use mathlib.Core.Path.{_≡_, refl, sym, ap, subst, _∙_}
 use mathlib.Core.List.{List}
-use lib.Dec.{eqb}
 use lib.Ieee.{Float}
 use lib.ListN.{length, take, drop}
 use Rattle.refusal.specs.Refusal.{Or, refused, ok}
 use Rattle.balance_flows.specs.Flows.{zero64}
 use Rattle.segment.specs.declared.Segment.{Segment}
 use Rattle.segment.specs.Segment.{segmentOf}
-use Rattle.balance_decision.specs.Sharing.{Told}
-use Rattle.propagation.specs.Propagation.{Profiles, filledOf}
+use Rattle.balance_decision.specs.declared.Outcome.the-variants.{Worked}
+use Rattle.balance_decision.specs.Outcome.{refusalOf, zero-is-worked}
+use Rattle.balance_decision.specs.Meaning.{from-cells}
+use Rattle.metering.specs.Metering.{dischargeVolumes}
+use Rattle.propagation.specs.Propagation.{Profiles}
 use Rattle.accuracy.specs.Accuracy.{Accurate}
-use Rattle.working_outcome.specs.declared.Outcome.the-variants.{Worked, Refused, Unsettled}
 use Rattle.working_outcome.specs.declared.Working.{Working}
-use Rattle.working_outcome.specs.Outcome.{numberOf, outcomeOf, outcome-number, workedOf}
-use Rattle.working.specs.Working.{Called, called, Works, acceptOf, callOf, byRecord, bySharing, sharingOf, unworkedOf}
+use Rattle.working.specs.Working.{Called, Works, acceptOf, callOf, byRecord, byDecision, decided-outcome, decisionFor}
 use Rattle.discharge.specs.declared.Discharged.{Discharged}
 use Rattle.discharge.specs.declared.Discharged.the-variants.{Refused as RefusedVolumes, Volumes}
 use Rattle.discharge.specs.Discharge.{EntriesDischarge, Calls}
@@ -30,45 +29,27 @@ use Rattle.exports.specs.declared.WorkAnswer.{WorkAnswer}
 use Rattle.exports.specs.declared.VolumesAnswer.{VolumesAnswer}
 use Rattle.exports.specs.declared.ValueAnswer.{ValueAnswer}
 use Rattle.exports.specs.declared.TitleAnswer.{TitleAnswer}
-use Rattle.exports.specs.Exports.{SegmentWorks, sumOf, workAnswer, SegmentDischarges, volumesAnswer, valueAnswer, ArchiveWrites, titleAnswer}
-
--- nothing is lost: number and sum say which outcome it was
-pub answer-outcome : (n : ℕ) (sum : Float) → outcomeOf (numberOf (outcomeOf n sum)) (sumOf (outcomeOf n sum)) ≡ outcomeOf n sum
-answer-outcome n sum = go (eqb n 0) refl (eqb n 15) refl
-  where
-    go : (a : Bool) → eqb n 0 ≡ a → (b : Bool) → eqb n 15 ≡ b
-        → outcomeOf (numberOf (cond a (Worked sum) (cond b (Unsettled sum) (Refused n)))) (sumOf (cond a (Worked sum) (cond b (Unsettled sum) (Refused n))))
-        ≡ cond a (Worked sum) (cond b (Unsettled sum) (Refused n))
-    go true ea b eb = refl
-    go false ea true eb = refl
-    go false ea false eb = rw (ea, eb)
+use Rattle.exports.specs.Exports.{SegmentWorks, workAnswer, SegmentDischarges, volumesAnswer, valueAnswer, ArchiveWrites, titleAnswer}
 
 -- what has the number 0 is worked
-zero-is-worked : (n : ℕ) (sum : Float) → numberOf (outcomeOf n sum) ≡ 0 → outcomeOf n sum ≡ Worked sum
-zero-is-worked n sum e = ap (λ (m : ℕ). outcomeOf m sum) (sym (outcome-number n sum) ∙ e)
-
--- so it is of every call
 pub record WorkedAt (c : Called) : Type 0 where
   pub sum : Float
   pub is : c .answer .outcome ≡ Worked sum
 
-shared-worked : (s : Segment) (t : Told) (p : Profiles) → numberOf (bySharing s t p .answer .outcome) ≡ 0 → WorkedAt (bySharing s t p)
-unfolding workedOf
-shared-worked s t p = go (eqb (t .number) 0)
-  where
-    go : (b : Bool)
-        → numberOf (cond b (called (workedOf s t) (filledOf s (t .pairs) p)) (called (unworkedOf t) p) .answer .outcome) ≡ 0
-        → WorkedAt (cond b (called (workedOf s t) (filledOf s (t .pairs) p)) (called (unworkedOf t) p))
-    go true e = record { sum = t .sum; is = refl }
-    go false e = record { sum = t .sum; is = zero-is-worked (t .number) (t .sum) e }
+decided-worked : (s : Segment) (p : Profiles) → refusalOf (byDecision s (decisionFor s) p .answer .outcome) ≡ 0 → WorkedAt (byDecision s (decisionFor s) p)
+unfolding decisionFor
+decided-worked s p e =
+    let o = decided-outcome s (decisionFor s) p in
+    let f = from-cells (dischargeVolumes s) (s .exits) (s .seeds) (sym (ap refusalOf o) ∙ e) in
+    record { sum = f .sum; is = o ∙ f .worked }
 
-pub call-worked : (l : List ℕ) (p : Profiles) → numberOf (callOf l p .answer .outcome) ≡ 0 → WorkedAt (callOf l p)
+pub call-worked : (l : List ℕ) (p : Profiles) → refusalOf (callOf l p .answer .outcome) ≡ 0 → WorkedAt (callOf l p)
 unfolding callOf
 call-worked l p = go (acceptOf l (length (p .output)) (length (p .first)) (length (p .second)))
   where
-    go : (x : Or Segment) → numberOf (byRecord x p .answer .outcome) ≡ 0 → WorkedAt (byRecord x p)
+    go : (x : Or Segment) → refusalOf (byRecord x p .answer .outcome) ≡ 0 → WorkedAt (byRecord x p)
     go (refused n) e = record { sum = zero64; is = zero-is-worked n zero64 e }
-    go (ok s) e = shared-worked s (sharingOf s) p e
+    go (ok s) e = decided-worked s p e
 
 -- the call's contract, in numbers
 pub segment-works : (l : List ℕ) (p : Profiles) (w : Working) (p′ : Profiles) (r : WorkAnswer) → Works l p w p′ → r ≡ workAnswer w → SegmentWorks l p r p′
@@ -77,12 +58,12 @@ segment-works l p w p′ r works e =
     record {
       answer = e ∙ ap workAnswer same;
       after = ap (λ (c : Called). c .after) (works .is);
-      demand = λ z. demanded (call-worked l p (sym (ap (λ (v : Working). numberOf (v .outcome)) same) ∙ sym (ap (λ (t : WorkAnswer). t .number) e) ∙ z));
+      accurate = λ z. near (call-worked l p (sym (ap (λ (v : Working). refusalOf (v .outcome)) same) ∙ sym (ap (λ (t : WorkAnswer). t .number) e) ∙ z));
     }
   where
-    demanded : WorkedAt (callOf l p) → Accurate (segmentOf l) (r .pairs .rows) p′
-    demanded a =
-        let d = works .demand (a .sum) (ap (λ (c : Called). c .answer .outcome) (works .is) ∙ a .is) in
+    near : WorkedAt (callOf l p) → Accurate (segmentOf l) (r .pairs .rows) p′
+    near a =
+        let d = works .accurate (a .sum) (ap (λ (c : Called). c .answer .outcome) (works .is) ∙ a .is) in
         subst (λ (rows : List (List ℕ)). Accurate (segmentOf l) rows p′) (sym (ap (λ (t : WorkAnswer). t .pairs .rows) e)) d
 
 -- the discharge call's, in numbers

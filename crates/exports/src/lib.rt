@@ -6,16 +6,14 @@
 ghost use mathlib.Core.Path.{_≡_};
 ghost use lib.ListN.{length};
 ghost use Rattle.propagation.specs.Propagation.{profiles};
-ghost use Rattle.working_outcome.specs.Outcome.{numberOf};
 ghost use Rattle.archive_format.specs.Archive.{addOf, answerOf, countOf, findOf, placeOf, firstEdition, titlePartOf};
 ghost use Rattle.report.specs.Report.{reportOf};
-ghost use Rattle.exports.specs.Exports.{SegmentWorks, sumOf, workAnswer, SegmentDischarges, volumesAnswer, valueAnswer, ArchiveWrites, titleAnswer};
+ghost use Rattle.exports.specs.Exports.{SegmentWorks, workAnswer, SegmentDischarges, volumesAnswer, valueAnswer, ArchiveWrites, titleAnswer};
 use archive_format::Answer;
 use archive_format::TitlePart;
 use discharge::Discharged;
 use exit_figures::ExitFigures;
 use pair_flows::PairFlows;
-use working_outcome::Outcome;
 use working_outcome::Working;
 
 // A working's answer: 0 and 15 tell the last sum.
@@ -57,26 +55,6 @@ pub struct TitleAnswer {
     pub length: usize,
 }
 
-fn number_of(outcome: Outcome) -> u32
-    ensures { λ r. ⌜ r ≡ numberOf outcome ⌝ }
-{
-    match outcome {
-        Outcome::Worked(_) => 0,
-        Outcome::Refused(n) => n,
-        Outcome::Unsettled(_) => 15,
-    }
-}
-
-fn sum_of(outcome: Outcome) -> f64
-    ensures { λ r. ⌜ r ≡ sumOf outcome ⌝ }
-{
-    match outcome {
-        Outcome::Worked(sum) => sum,
-        Outcome::Refused(_) => 0.0,
-        Outcome::Unsettled(sum) => sum,
-    }
-}
-
 fn work_answer(w: Working) -> WorkAnswer
     ensures { λ r. ⌜ r ≡ workAnswer w ⌝ }
 {
@@ -86,9 +64,9 @@ fn work_answer(w: Working) -> WorkAnswer
     let through = w.through;
     let right = w.right;
     WorkAnswer {
-        number: number_of(outcome),
+        number: balance_decision::refusal_of(outcome),
         rounds: w.rounds,
-        sum: sum_of(outcome),
+        sum: balance_decision::last_sum_of(outcome),
         arrival: w.arrival,
         blocked: w.blocked,
         pairs,

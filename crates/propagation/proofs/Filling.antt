@@ -6,11 +6,12 @@ use mathlib.Core.List.{List, []}
 use lib.ListN.{length, drop, getD}
 use lib.Seq.{drop-at}
 use Rattle.limits.specs.Limits.{entryLimit}
+use Rattle.movements.specs.declared.Counts.{Counts}
 use Rattle.movements.specs.Movements.{flowUnits}
 use Rattle.segment.specs.declared.Entry.{Entry}
 use Rattle.segment.specs.declared.Segment.{Segment}
 use Rattle.ranges.specs.Ranges.{Ranges, EntryRanges}
-use Rattle.metering.specs.Metering.{dischargeUnits}
+use Rattle.metering.specs.Metering.{dischargeVolume, dischargeUnits}
 use Rattle.entries.specs.Entries.{entryProfile}
 use Rattle.entries.specs.Laws.{entry-length, entry-le}
 use Rattle.dispersion.specs.Dispersion.{arrivalTimeOf, reported}
@@ -32,7 +33,7 @@ pub record Filling (s : Segment) (p₀ p : Profiles) (b : ℕ) (r : ℕ → ℕ 
   pub first : drop (s .cycle) (p .first) ≡ drop (s .cycle) (p₀ .first)
   pub second : drop (s .cycle) (p .second) ≡ drop (s .cycle) (p₀ .second)
 
-pub fill-begin : {s : Segment} {rows : List (List ℕ)} {o f g : List ℕ} → FillFits s rows (profiles o f g) → {o′ : List ℕ} →
+pub fill-begin : {s : Segment} {rows : List (List ℕ)} {o f g : List ℕ} → {v : Counts} → FillFits s v rows (profiles o f g) → {o′ : List ℕ} →
     o′ ≡ begun (s .cycle) (getD rows 3 []) o → length o′ ≡ length o → Filling s (profiles o f g) (profiles o′ f g) accessLimit (λ j k. pairFlow rows 3 j)
 fill-begin {s} {rows} {o} h e n =
     record {
@@ -44,13 +45,14 @@ fill-begin {s} {rows} {o} h e n =
     }
 
 module _ {s : Segment} {p₀ p : Profiles} {b : ℕ} {r : ℕ → ℕ → ℕ} (h : Filling s p₀ p b r) (ranges : Ranges s) where
-  pub fill-asks : b ≤ runLimit → {e : Entry} (row : List ℕ) → EntryRanges (s .cycle) e →
-      ((j : ℕ) → getD row j 0 ≤ dischargeUnits (s .cycle) e) → FillEntryFits (s .running) (s .cycle) e row p
-  fill-asks hb row er shares =
+  pub fill-asks : b ≤ runLimit → {e : Entry} {v : ℕ} (row : List ℕ) → EntryRanges (s .cycle) e → v ≡ dischargeVolume (s .cycle) e →
+      ((j : ℕ) → getD row j 0 ≤ dischargeUnits (s .cycle) e) → FillEntryFits (s .running) (s .cycle) e v row p
+  fill-asks hb row er ev shares =
       record {
         time = ranges .running .1;
         cycle = ranges .cycle;
         entry = er;
+        volume = ev;
         shares = shares;
         room = h .room;
         small = λ k hk. rw (h .runs)

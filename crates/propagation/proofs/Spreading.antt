@@ -55,9 +55,9 @@ module _ (c : ℕ) (e : Entry) (ys : List ℕ) (made : ys ≡ entryProfile c e) 
   front-long rest = rw made (simp length-append (omega (arith, entry-length c e)))
 
 -- what the spreading asks of an entry of the record
-pub entry-asks : {running c : ℕ} {e : Entry} {row : List ℕ} {p : Profiles} → FillEntryFits running c e row p →
+pub entry-asks : {running c o : ℕ} {e : Entry} {row : List ℕ} {p : Profiles} → FillEntryFits running c e o row p →
     {units : ℕ} → units ≡ dischargeUnits c e → {q : List ℕ} → q ≡ entryProfile c e → SpreadFits running units row q p
-entry-asks {running} {c} {e} {row} {p} h eu eq =
+entry-asks {running} {c} {o} {e} {row} {p} h eu eq =
     let l : length (entryProfile c e) ≡ c = entry-length c e in
     let n : length (reported running (entryProfile c e) cycles) ≡ c = reported-length running (entryProfile c e) 1 ∙ l in
     rw (eu, eq)

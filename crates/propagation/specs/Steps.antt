@@ -5,11 +5,12 @@ use mathlib.Core.Path.{_≡_}
 use mathlib.Core.List.{List, [], _++_}
 use lib.ListN.{length, drop, getD}
 use Rattle.limits.specs.Limits.{leastCycle, mostCycle, mostRunning}
+use Rattle.movements.specs.declared.Counts.{Counts}
 use Rattle.movements.specs.Movements.{flowUnits}
 use Rattle.segment.specs.declared.Entry.{Entry}
 use Rattle.segment.specs.declared.Segment.{Segment}
 use Rattle.ranges.specs.Ranges.{Ranges, EntryRanges}
-use Rattle.metering.specs.Metering.{dischargeUnits}
+use Rattle.metering.specs.Metering.{dischargeVolume, dischargeUnits, dischargeVolumes}
 use Rattle.entries.specs.Entries.{entryProfile}
 use Rattle.dispersion.specs.Dispersion.{arrivalTimeOf, reported}
 use Rattle.arrivals.specs.Arrivals.{runLimit, entryAdded}
@@ -44,10 +45,11 @@ pub room-kept : {c : ℕ} (p p′ : Profiles) → Room c p → length (p′ .out
     length (p′ .second) ≡ length (p .second) → Room c p′
 room-kept p p′ r eo ef es = record { output = omega (arith, r .output); first = omega (arith, r .first); second = omega (arith, r .second) }
 
-pub record FillEntryFits (running c : ℕ) (e : Entry) (row : List ℕ) (p : Profiles) : Type 0 where
+pub record FillEntryFits (running c : ℕ) (e : Entry) (o : ℕ) (row : List ℕ) (p : Profiles) : Type 0 where
   pub time : running ≤ mostRunning
   pub cycle : (leastCycle ≤ c) × (c ≤ mostCycle)
   pub entry : EntryRanges c e
+  pub volume : o ≡ dischargeVolume c e
   pub shares : (j : ℕ) → getD row j 0 ≤ dischargeUnits c e
   pub room : Room c p
   pub small : (k : ℕ) → k < 4 * c → getD (p .output) k 0 ≤ runLimit
@@ -60,7 +62,8 @@ pub record RowsFit (s : Segment) (rows : List (List ℕ)) : Type 0 where
   pub right : (j : ℕ) → pairFlow rows 2 j ≤ dischargeUnits (s .cycle) (s .right)
   pub access : (j : ℕ) → pairFlow rows 3 j ≤ flowUnits (s .access)
 
-pub record FillFits (s : Segment) (rows : List (List ℕ)) (p : Profiles) : Type 0 where
+pub record FillFits (s : Segment) (o : Counts) (rows : List (List ℕ)) (p : Profiles) : Type 0 where
   pub ranges : Ranges s
+  pub volumes : o ≡ dischargeVolumes s
   pub shares : RowsFit s rows
   pub room : Room (s .cycle) p

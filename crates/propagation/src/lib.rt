@@ -2,6 +2,7 @@
 ghost use mathlib.Core.Path.{_≡_};
 ghost use Rattle.propagation.specs.Propagation.{filledOf, profiles};
 ghost use Rattle.propagation.specs.Steps.{FillEntryFits, FillFits, SpreadFits, entryStep, spreadStep};
+use movements::Counts;
 use segment::Entry;
 use segment::Segment;
 
@@ -26,24 +27,24 @@ fn spread(
     arrivals::add_entry(part, row, units, dispersion::arrival_time(running), output);
 }
 
-// One entry: its discharge stands in an array of the longest cycle.
+// One entry that discharges o: its profile stands in an array of the longest cycle.
 fn fill_entry(
-    running: u32,
-    cycle: u32,
+    s: Segment,
     e: Entry,
+    o: u32,
     row: [u32; 4],
     output: &mut [u32],
     first: &mut [u32],
     second: &mut [u32],
 )
-    requires { ⌜ FillEntryFits running cycle e row (profiles (now output) (now first) (now second)) ⌝ }
-    ensures { λ _. ⌜ profiles (now (output .exit)) (now (first .exit)) (now (second .exit)) ≡ entryStep running cycle e row (profiles (now (output .entry)) (now (first .entry)) (now (second .entry))) ⌝ }
+    requires { ⌜ FillEntryFits (s .running) (s .cycle) e o row (profiles (now output) (now first) (now second)) ⌝ }
+    ensures { λ _. ⌜ profiles (now (output .exit)) (now (first .exit)) (now (second .exit)) ≡ entryStep (s .running) (s .cycle) e row (profiles (now (output .entry)) (now (first .entry)) (now (second .entry))) ⌝ }
 {
-    let c = cycle as usize;
+    let c = s.cycle as usize;
     let mut discharge = [0u32; limits::CYCLE_ROOM];
-    let o = entries::discharge_entry(cycle, e, &mut discharge[0..c]);
+    entries::fill_profile(s.cycle, e, o, &mut discharge[0..c]);
     spread(
-        running,
+        s.running,
         movements::flow_units(o),
         row,
         &discharge[0..c],
@@ -53,27 +54,21 @@ fn fill_entry(
     );
 }
 
-// The whole: access first, then the signalised entries in order. The right entry's cycles stay in the work profiles.
+// The whole, from the discharge volumes and the pair flows: access first, then the signalised entries in order.
+// The right entry's cycles stay in the work profiles.
 pub fn fill(
     s: Segment,
+    o: Counts,
     rows: [[u32; 4]; 4],
     output: &mut [u32],
     first: &mut [u32],
     second: &mut [u32],
 )
-    requires { ⌜ FillFits s rows (profiles (now output) (now first) (now second)) ⌝ }
+    requires { ⌜ FillFits s o rows (profiles (now output) (now first) (now second)) ⌝ }
     ensures { λ _. ⌜ profiles (now (output .exit)) (now (first .exit)) (now (second .exit)) ≡ filledOf s rows (profiles (now (output .entry)) (now (first .entry)) (now (second .entry))) ⌝ }
 {
     arrivals::begin(s.cycle as usize, rows[3], output);
-    fill_entry(s.running, s.cycle, s.left, rows[0], output, first, second);
-    fill_entry(
-        s.running,
-        s.cycle,
-        s.through,
-        rows[1],
-        output,
-        first,
-        second,
-    );
-    fill_entry(s.running, s.cycle, s.right, rows[2], output, first, second);
+    fill_entry(s, s.left, o.left, rows[0], output, first, second);
+    fill_entry(s, s.through, o.through, rows[1], output, first, second);
+    fill_entry(s, s.right, o.right, rows[2], output, first, second);
 }

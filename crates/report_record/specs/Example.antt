@@ -4,9 +4,9 @@ use mathlib.Core.List.{_++_}
 use lib.Ieee.{Float}
 use Rattle.text.specs.Text.{digits, field}
 use Rattle.pair_flows.specs.declared.PairFlows.{PairFlows}
-use Rattle.working_outcome.specs.declared.Outcome.the-variants.{Worked}
+use Rattle.balance_decision.specs.declared.Outcome.the-variants.{Worked}
 use Rattle.working_outcome.specs.declared.Working.{Working}
-use Rattle.working_outcome.specs.Outcome.{noFigures}
+use Rattle.working_outcome.specs.Answer.{noFigures}
 use Rattle.report_lines.specs.Words.{bytes}
 use Rattle.report_lines.specs.Lines.{recordLine, exitLine, accessLine, blockedLine}
 use Rattle.report_record.specs.Record.{workedText, recordText}

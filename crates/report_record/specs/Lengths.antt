@@ -2,8 +2,8 @@
 use Prim.Native.Nat.{ℕ, _≤_}
 use native.Mathlib.Omega.{arith}
 use lib.ListN.{length, length-append}
-use Rattle.working_outcome.specs.declared.Outcome.{Outcome}
-use Rattle.working_outcome.specs.declared.Outcome.the-variants.{Worked, Refused, Unsettled}
+use Rattle.balance_decision.specs.declared.Outcome.{Outcome}
+use Rattle.balance_decision.specs.declared.Outcome.the-variants.{Worked, Refused, Unsettled}
 use Rattle.working_outcome.specs.declared.Working.{Working}
 use Rattle.report_lines.specs.Lines.{exitLabel, letterL, letterT, letterR}
 use Rattle.report_lines.specs.Lengths.{record-line, exit-line, access-line, blocked-line, refused-line}

@@ -1,12 +1,12 @@
 // The lines of one record, from its number, its cycle and what its working answered, appended to a lent buffer.
 ghost use Rattle.text.specs.Text.{Wrote};
 ghost use Rattle.report_record.specs.Record.{recordText, workedText};
+use balance_decision::Outcome;
 use report_lines::access_line;
 use report_lines::blocked_line;
 use report_lines::exit_line;
 use report_lines::record_line;
 use report_lines::refused_line;
-use working_outcome::Outcome;
 use working_outcome::Working;
 
 fn worked_text(text: &mut [u8], at: usize, number: u32, cycle: u32, w: Working) -> usize

@@ -13,9 +13,10 @@ use Rattle.segment.specs.declared.Segment.{Segment}
 use Rattle.ranges.specs.Ranges.{Ranges}
 use Rattle.metering.specs.Metering.{dischargeVolumes, discharge-volume-entry, dischargeUnits}
 use Rattle.balance_pairs.specs.Pairs.{WithinLimit, pairRow, pairRows, row-adds}
+use Rattle.balance_decision.specs.Outcome.{refusalOf}
 use Rattle.balance_decision.specs.Meaning.{from-cells}
 use Rattle.propagation.specs.Steps.{RowsFit}
-use Rattle.working.specs.Working.{sharingOf}
+use Rattle.working.specs.Working.{decisionFor}
 
 pub limits : (s : Segment) (o : Counts) → Ranges s → o ≡ dischargeVolumes s → WithinLimit o
 unfolding dischargeVolumes
@@ -45,12 +46,12 @@ rows-four cells o (suc (suc zero)) h = refl
 rows-four cells o (suc (suc (suc zero))) h = refl
 rows-four cells o (suc (suc (suc (suc i)))) h = absurd (omega arith)
 
-pub rows-fit : (s : Segment) → sharingOf s .number ≡ 0 → RowsFit s (sharingOf s .pairs)
-unfolding sharingOf dischargeVolumes pairRows
+pub rows-fit : (s : Segment) → refusalOf (decisionFor s .outcome) ≡ 0 → RowsFit s (decisionFor s .pairs .rows)
+unfolding decisionFor dischargeVolumes pairRows
 rows-fit s e =
     let f = from-cells (dischargeVolumes s) (s .exits) (s .seeds) e in
     let c = f .cells in
-    rw (f .is)
+    rw (f .rows)
     (record {
       four = rows-four c (dischargeVolumes s);
       left = row-le (c .left) (dischargeUnits (s .cycle) (s .left));

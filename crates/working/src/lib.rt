@@ -5,11 +5,10 @@ ghost use Rattle.ranges.specs.Ranges.{Ranges};
 ghost use Rattle.validation.specs.Validation.{checkedOf};
 ghost use Rattle.propagation.specs.Propagation.{profiles};
 ghost use Rattle.propagation.specs.Steps.{Room};
-ghost use Rattle.working.specs.Working.{Works, acceptOf, bySharing, called, sharingOf};
-use balance_decision::Verdict;
+ghost use Rattle.working.specs.Working.{Works, acceptOf, byDecision, called, decisionFor};
+use balance_decision::Outcome;
 use segment::Segment;
 use validation::Checked;
-use working_outcome::Outcome;
 use working_outcome::Working;
 
 // The refusals of the record and of the lent profiles' lengths.
@@ -33,17 +32,24 @@ fn accept(bytes: &[u8], output: usize, first: usize, second: usize) -> Checked
 // The volumes are decided before anything is written.
 fn work_accepted(s: Segment, output: &mut [u32], first: &mut [u32], second: &mut [u32]) -> Working
     requires { ⌜ Ranges s × Room (s .cycle) (profiles (now output) (now first) (now second)) ⌝ }
-    ensures { λ r. ⌜ called r (profiles (now (output .exit)) (now (first .exit)) (now (second .exit))) ≡ bySharing s (sharingOf s) (profiles (now (output .entry)) (now (first .entry)) (now (second .entry))) ⌝ }
+    ensures { λ r. ⌜ called r (profiles (now (output .exit)) (now (first .exit)) (now (second .exit))) ≡ byDecision s (decisionFor s) (profiles (now (output .entry)) (now (first .entry)) (now (second .entry))) ⌝ }
 {
-    let sharing = balance_decision::decide(metering::discharge_volumes(s), s.exits, s.seeds);
-    let verdict = sharing.verdict;
-    match verdict {
-        Verdict::NoVolume => working_outcome::refused(Outcome::Refused(13)),
-        Verdict::Unserved => working_outcome::refused(Outcome::Refused(14)),
-        Verdict::Unsettled(sum) => working_outcome::refused(Outcome::Unsettled(sum)),
-        Verdict::Shared(sum) => {
-            propagation::fill(s, pair_flows::rows_of(sharing.pairs), output, first, second);
-            working_outcome::worked(s, sum, sharing.rounds, sharing.pairs, &output[..])
+    let o = metering::discharge_volumes(s);
+    let decision = balance_decision::decide(o, s.exits, s.seeds);
+    let outcome = decision.outcome;
+    match outcome {
+        Outcome::Refused(_) => working_outcome::refused(outcome),
+        Outcome::Unsettled(_) => working_outcome::refused(outcome),
+        Outcome::Worked(sum) => {
+            propagation::fill(
+                s,
+                o,
+                pair_flows::rows_of(decision.pairs),
+                output,
+                first,
+                second,
+            );
+            working_outcome::worked(s, sum, decision.rounds, decision.pairs, &output[..])
         }
     }
 }

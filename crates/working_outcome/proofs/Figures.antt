@@ -14,11 +14,11 @@ use Rattle.dispersion.specs.Dispersion.{arrivalTimeOf}
 use Rattle.arrivals.specs.Laws.{run-of, runs-length}
 use Rattle.exit_figures.specs.declared.ExitFigures.{ExitFigures}
 use Rattle.exit_figures.specs.ExitFigures.{figuresOf, blockedSteps}
+use Rattle.balance_decision.specs.declared.Outcome.the-variants.{Worked}
 use Rattle.pair_flows.specs.declared.PairFlows.{PairFlows}
 use Rattle.propagation.specs.Propagation.{flowAt}
-use Rattle.working_outcome.specs.declared.Outcome.the-variants.{Worked}
 use Rattle.working_outcome.specs.declared.Working.{Working}
-use Rattle.working_outcome.specs.Outcome.{runOf, workedOf}
+use Rattle.working_outcome.specs.Answer.{runOf, workedOf}
 use Rattle.working_outcome.specs.Filled.{Filled}
 
 module _ {s : Segment} {rows : List (List ℕ)} {output : List ℕ} (f : Filled s rows output) where
@@ -47,6 +47,6 @@ pub worked-is : (s : Segment) (x : Float) (n : ℕ) (p : PairFlows) {a : ℕ} {l
     a ≡ arrivalTimeOf (s .running) → l ≡ figuresOf (s .downstream .left) r0 → t ≡ figuresOf (s .downstream .through) r1 →
     r ≡ figuresOf (s .downstream .right) r2 → d ≡ sum r3 → b ≡ blockedSteps (s .headway) r1 →
     _≡_ {A = Working} (record { outcome = Worked x; arrival = a; rounds = n; pairs = p; left = l; through = t; right = r; access = d; blocked = b })
-    (workedOf s (record { number = 0; sum = x; rounds = n; pairs = p .rows }))
+    (workedOf s x n p)
 unfolding workedOf
 worked-is s x n p e0 e1 e2 e3 ea el et er ed eb = rw (ea, el, et, er, ed, eb, e0, e1, e2, e3)

@@ -1,17 +1,11 @@
 // What the working of a segment record answers: its figures, read from a filled output, or a refusal.
 ghost use mathlib.Core.Path.{_≡_};
-ghost use Rattle.working_outcome.specs.Outcome.{refusedWith, workedOf};
+ghost use Rattle.working_outcome.specs.Answer.{refusedWith, workedOf};
 ghost use Rattle.working_outcome.specs.Filled.{Filled};
+use balance_decision::Outcome;
 use exit_figures::ExitFigures;
 use pair_flows::PairFlows;
 use segment::Segment;
-
-// Worked and unsettled tell the last sum of differences; a refusal tells the paper's number.
-pub enum Outcome {
-    Worked(f64),
-    Refused(u32),
-    Unsettled(f64),
-}
 
 // Platoon arrival time in steps, rounds of balancing, the sixteen pair flows, the exits' figures (access its total alone),
 // and the blocked steps of the through exit. All 0 unless worked.
@@ -52,7 +46,7 @@ pub fn refused(outcome: Outcome) -> Working
 // The figures of a filled output.
 pub fn worked(s: Segment, sum: f64, rounds: u32, pairs: PairFlows, output: &[u32]) -> Working
     requires { ⌜ Filled s (pairs .rows) (now output) ⌝ }
-    ensures { λ r. ⌜ r ≡ workedOf s (record { number = 0; sum = sum; rounds = rounds; pairs = pairs .rows }) ⌝ }
+    ensures { λ r. ⌜ r ≡ workedOf s sum rounds pairs ⌝ }
 {
     let one = s.cycle as usize;
     let two = one + one;

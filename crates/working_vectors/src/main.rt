@@ -1,8 +1,8 @@
 // Runs the working on the vectors of docs/VECTORS.md and compares the answer and every number of the three profiles.
 ghost use Prim.Native.Nat.{_+_, _*_, _≤_};
 ghost use lib.ListN.{length};
+use balance_decision::Outcome;
 use exit_figures::ExitFigures;
-use working_outcome::Outcome;
 use working_outcome::Working;
 
 // The expected numbers of a case, after its record and the profiles' lengths: number, last sum, platoon arrival time, rounds, pair flows,

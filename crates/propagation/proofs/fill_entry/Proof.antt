@@ -1,16 +1,37 @@
+-- The entry's profile stands in front of the array; dispersed and landed, it is the step of the entry.
 use native.Mathlib.Omega.{arith}
-use lib.ListN.{drop, replicate}
 use Prim.Native.Nat.{_-_}
-use mathlib.Core.Path.{ap, _∙_}
+use mathlib.Core.Path.{_≡_, ap, _∙_}
+use lib.ListN.{drop, replicate}
 use Rattle.movements.specs.Movements.{flowUnits}
+use Rattle.metering.specs.Metering.{dischargeUnits}
 use Rattle.entries.specs.Laws.{discharge-volume-le}
 use Rattle.propagation.proofs.Spreading.{front, front-long, entry-asks, entry-done}
 use borrow.Author.Needs.{needs}
 use Rattle.propagation.proofs.fill_entry.Statement.{statement}
 use Rattle.propagation.proofs.fill_entry.Tie as tie
 
-sub-discharge-entry : tie.Need-sub-discharge-entry
-sub-discharge-entry c = search needs
+-- ---- from each call back to the one before
+
+abbrev start : tie.After-fill-profile → tie.Start
+start c = let known = c .before .before .before in known .before .before .before
+
+abbrev profile-of : tie.After-flow-units → tie.After-fill-profile
+profile-of c = c .before .before
+
+abbrev units-of : tie.After-spread-arg → tie.After-flow-units
+units-of c = c .before .before
+
+units : (c : tie.After-flow-units) → let a = start (profile-of c) .args in c .flow-units .result ≡ dischargeUnits (a .s .cycle) (a .e)
+units c = c .flow-units .ensures ∙ ap flowUnits (start (profile-of c) .pre .volume)
+
+-- ---- the needs
+
+cast-c : tie.Need-cast-c
+cast-c c = search needs
+
+sub-fill-profile : tie.Need-sub-fill-profile
+sub-fill-profile c = search needs
 
 part-discharge-start : tie.Need-part-discharge-start
 part-discharge-start c = search needs
@@ -18,11 +39,11 @@ part-discharge-start c = search needs
 part-discharge-end : tie.Need-part-discharge-end
 part-discharge-end c = search needs
 
-discharge-entry-requires : tie.Need-discharge-entry-requires
-discharge-entry-requires c κs = search needs
+fill-profile-requires : tie.Need-fill-profile-requires
+fill-profile-requires c κs = search needs
 
 flow-units-requires : tie.Need-flow-units-requires
-flow-units-requires c κs = omega (arith, discharge-volume-le _ _ _ (c .before .before .before .before .before .before .pre .entry) (c .before .discharge-entry .ensures .0))
+flow-units-requires c κs = let h = start (c .before) .pre in omega (arith, discharge-volume-le _ _ _ (h .entry) (h .volume))
 
 sub-spread : tie.Need-sub-spread
 sub-spread c = search needs
@@ -31,14 +52,15 @@ part-spread-start : tie.Need-part-spread-start
 part-spread-start c = search needs
 
 part-spread-end : tie.Need-part-spread-end
-part-spread-end c = front-long _ _ (c .before .before .before .discharge-entry .last .1 .1 .0) (c .before .before .before .discharge-entry .ensures .1) (drop (c .before .before .before .before .before .before .before .before .args .cycle - 0) (replicate 240 0))
+part-spread-end c =
+    let p = profile-of (c .before) in
+    front-long _ _ (p .fill-profile .last .1 .1 .1 .0) (p .fill-profile .ensures) (drop (start p .args .s .cycle - 0) (replicate 240 0))
 
 spread-requires : tie.Need-spread-requires
 spread-requires c κs =
-    let at-flow-units = c .before .before .before .before .before in
-    let at-discharge-entry = at-flow-units .before .before in
-    let start = at-discharge-entry .before .before .before .before .before in
-    entry-asks (start .pre) (at-flow-units .flow-units .ensures ∙ ap flowUnits (at-discharge-entry .discharge-entry .ensures .0)) (front _ _ _ (at-discharge-entry .discharge-entry .ensures .1) _)
+    let u = units-of (c .before .before .before) in
+    let p = profile-of u in
+    entry-asks (start p .pre) (units u) (front _ _ _ (p .fill-profile .ensures) _)
 
 same-length : tie.Need-same-length
 same-length c = search needs
@@ -51,19 +73,20 @@ same-length-3 c = search needs
 
 returns : tie.Need-returns
 returns c =
-    let at-spread = c .before .before .before .before .before .before in
-    let at-flow-units = at-spread .before .before .before .before .before .before in
-    let at-discharge-entry = at-flow-units .before .before in
-    entry-done _ _ _ _ _ (at-flow-units .flow-units .ensures ∙ ap flowUnits (at-discharge-entry .discharge-entry .ensures .0)) (front _ _ _ (at-discharge-entry .discharge-entry .ensures .1) _) (at-spread .spread .ensures)
+    let at-first = c .before .before .before in
+    let spread = at-first .before .before .before in
+    let u = units-of (spread .before .before .before .before) in
+    entry-done _ _ _ _ _ (units u) (front _ _ _ (profile-of u .fill-profile .ensures) _) (spread .spread .ensures)
 
 pub fill-entry-spec : {M : Type 1} → statement M
 fill-entry-spec =
     tie.close
     (tie.spec
-    sub-discharge-entry
+    cast-c
+    sub-fill-profile
     part-discharge-start
     part-discharge-end
-    discharge-entry-requires
+    fill-profile-requires
     flow-units-requires
     sub-spread
     part-spread-start

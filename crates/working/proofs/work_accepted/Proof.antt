@@ -1,16 +1,37 @@
+-- The volumes are decided first. Refused, nothing is written; worked, the profiles are filled and the figures are read from the output.
+use mathlib.Core.Path.{_≡_}
 use Rattle.propagation.specs.Propagation.{profiles}
-use mathlib.Core.Path.{refl, _∙_}
+use Rattle.working.specs.Working.{decisionFor}
 use Rattle.working.proofs.Rows.{limits}
-use Rattle.working.proofs.Deciding.{told-number, told-sum, told-rounds, told-pairs, shares-refused, shares-unsettled, fill-asks, filled, shares-worked}
+use Rattle.working.proofs.Deciding.{decided-is, refused-is, unsettled-is, fill-asks, filled, worked-is}
 use borrow.Author.Needs.{needs}
 use Rattle.working.proofs.work_accepted.Statement.{statement}
 use Rattle.working.proofs.work_accepted.Tie as tie
+
+-- ---- from each call back to the one before
+
+abbrev start : tie.After-discharge-volumes → tie.Start
+start c = c .before .before .before .before
+
+abbrev decide-of : tie.After-rows-of → tie.After-decide
+decide-of c = c .before .before .before .before
+
+abbrev rows-of : tie.After-fill → tie.After-rows-of
+rows-of c = c .before .before .before .before
+
+abbrev fill-of : tie.After-worked-arg → tie.After-fill
+fill-of c = let at-first = c .before .before .before .before in at-first .before .before .before
+
+decided : (c : tie.After-decide) → c .decide .result ≡ decisionFor (start (c .before) .args .s)
+decided c = decided-is _ (c .before .discharge-volumes .ensures) (c .decide .ensures)
+
+-- ---- the needs
 
 discharge-volumes-requires : tie.Need-discharge-volumes-requires
 discharge-volumes-requires c κs = search needs
 
 decide-requires : tie.Need-decide-requires
-decide-requires c κs = limits _ _ (c .before .before .before .before .pre .0) (c .discharge-volumes .ensures)
+decide-requires c κs = limits _ _ (start c .pre .0) (c .discharge-volumes .ensures)
 
 enum-told : tie.Need-enum-told
 enum-told c = search needs
@@ -24,46 +45,31 @@ enum-told-2 c = search needs
 refused-requires-2 : tie.Need-refused-requires-2
 refused-requires-2 c κs = search needs
 
-enum-known-verdict : tie.Need-enum-known-verdict
-enum-known-verdict c = search needs
-
-refused-requires-3 : tie.Need-refused-requires-3
-refused-requires-3 c κs = search needs
-
-enum-known-verdict-2 : tie.Need-enum-known-verdict-2
-enum-known-verdict-2 c = search needs
+enum-known-outcome : tie.Need-enum-known-outcome
+enum-known-outcome c = search needs
 
 rows-of-requires : tie.Need-rows-of-requires
 rows-of-requires c κs = search needs
 
 fill-requires : tie.Need-fill-requires
 fill-requires c κs =
-    let at-rows-of = c .before .before .before in
-    let at-verdict2 = at-rows-of .before .before in
-    let at-decide = at-verdict2 .before .before in
-    let at-discharges = at-decide .before in
-    let start = at-discharges .before .before .before .before in
-    fill-asks _ _ (start .pre .0) (start .pre .1) (told-number _ _ (at-decide .decide .result) (at-discharges .discharge-volumes .ensures) (at-decide .decide .ensures) _ (at-verdict2 .verdict2 .given .1)) (at-rows-of .rows-of .ensures ∙ told-pairs _ _ (at-decide .decide .result) (at-discharges .discharge-volumes .ensures) (at-decide .decide .ensures))
+    let r = c .before .before .before in
+    let d = decide-of r in
+    let pre = start (d .before) .pre in
+    fill-asks _ _ (decided d) _ (r .before .before .outcome .given .1) (r .rows-of .ensures) (pre .0) (pre .1) (d .before .discharge-volumes .ensures)
 
 worked-requires : tie.Need-worked-requires
 worked-requires c κs =
-    let at-fill = c .before .before .before .before .before .before .before in
-    let at-rows-of = at-fill .before .before .before .before in
-    let start = at-rows-of .before .before .before .before .before .before .before .before .before in
-    filled _ (profiles _ _ _) (start .pre .0) (at-rows-of .rows-of .ensures) (profiles _ _ _) (at-fill .fill .ensures)
+    let f = fill-of c in
+    let r = rows-of f in
+    let d = decide-of r in
+    filled _ (profiles _ _ _) (decided d) _ (r .before .before .outcome .given .1) (r .rows-of .ensures) (start (d .before) .pre .0) (profiles _ _ _) (f .fill .ensures)
 
 returns : tie.Need-returns
-returns c = shares-refused _ _ 13 (told-number _ _ _ (c .before .before .before .before .discharge-volumes .ensures) (c .before .before .before .decide .ensures) _ (c .before .enum-told .given .1)) refl refl (c .refused .ensures)
+returns c = refused-is _ _ (decided (c .before .before .before)) _ (c .before .enum-told .given .1) (c .refused .ensures)
 
 returns-2 : tie.Need-returns-2
-returns-2 c = shares-refused _ _ 14 (told-number _ _ _ (c .before .before .before .before .discharge-volumes .ensures) (c .before .before .before .decide .ensures) _ (c .before .enum-told2 .given .1)) refl refl (c .refused2 .ensures)
-
-returns-3 : tie.Need-returns-3
-returns-3 c =
-    let at-verdict = c .before .before in
-    let at-decide = at-verdict .before .before in
-    let at-discharges = at-decide .before in
-    shares-unsettled _ _ _ (told-number _ _ _ (at-discharges .discharge-volumes .ensures) (at-decide .decide .ensures) _ (at-verdict .verdict .given .1)) (told-sum _ _ _ (at-discharges .discharge-volumes .ensures) (at-decide .decide .ensures) _ (at-verdict .verdict .given .1)) (c .refused3 .ensures)
+returns-2 c = unsettled-is _ _ (decided (c .before .before .before)) _ (c .before .enum-told2 .given .1) (c .refused2 .ensures)
 
 same-length : tie.Need-same-length
 same-length c = search needs
@@ -74,17 +80,11 @@ same-length-2 c = search needs
 same-length-3 : tie.Need-same-length-3
 same-length-3 c = search needs
 
-returns-4 : tie.Need-returns-4
-returns-4 c =
-    let at-fill = c .before .before .before .before .before .before .before .before in
-    let at-rows-of = at-fill .before .before .before .before in
-    let at-verdict2 = at-rows-of .before .before in
-    let at-decide = at-verdict2 .before .before in
-    let r = at-decide .decide .result in
-    let d = at-decide .before .discharge-volumes .ensures in
-    let e = at-decide .decide .ensures in
-    let v = at-verdict2 .verdict2 .given .1 in
-    shares-worked _ _ (told-number _ _ r d e _ v) (told-sum _ _ r d e _ v) (told-rounds _ _ r d e) (told-pairs _ _ r d e) (at-rows-of .rows-of .ensures) (profiles _ _ _) (at-fill .fill .ensures) (c .worked .ensures)
+returns-3 : tie.Need-returns-3
+returns-3 c =
+    let f = fill-of (c .before) in
+    let r = rows-of f in
+    worked-is _ _ (decided (decide-of r)) _ (r .before .before .outcome .given .1) (r .rows-of .ensures) (profiles _ _ _) (f .fill .ensures) (c .worked .ensures)
 
 pub work-accepted-spec : {M : Type 1} → statement M
 work-accepted-spec =
@@ -96,16 +96,13 @@ work-accepted-spec =
     refused-requires
     enum-told-2
     refused-requires-2
-    enum-known-verdict
-    refused-requires-3
-    enum-known-verdict-2
+    enum-known-outcome
     rows-of-requires
     fill-requires
     worked-requires
     returns
     returns-2
-    returns-3
     same-length
     same-length-2
     same-length-3
-    returns-4)
+    returns-3)

@@ -1,6 +1,7 @@
+-- The number of each case.
 use borrow.Author.Needs.{needs}
-use Rattle.exports.proofs.number_of.Statement.{statement}
-use Rattle.exports.proofs.number_of.Tie as tie
+use Rattle.balance_decision.proofs.refusal_of.Statement.{statement}
+use Rattle.balance_decision.proofs.refusal_of.Tie as tie
 
 enum-told : tie.Need-enum-told
 enum-told c = search needs
@@ -20,6 +21,6 @@ returns-2 c = search needs
 returns-3 : tie.Need-returns-3
 returns-3 c = search needs
 
-pub number-of-spec : {M : Type 1} → statement M
-number-of-spec =
+pub refusal-of-spec : {M : Type 1} → statement M
+refusal-of-spec =
     tie.close (tie.spec enum-told enum-known-outcome enum-told-2 returns returns-2 returns-3)

@@ -1,0 +1,29 @@
+-- The entry's ranges are what the platoon asks; its profile is that of the discharge volume.
+use native.Mathlib.Omega.{arith}
+use mathlib.Core.Path.{_∙_}
+use Rattle.entries.specs.Entries.{entryProfile}
+use Rattle.entries.specs.Laws.{discharge-volume-le}
+use borrow.Author.Needs.{needs}
+use Rattle.entries.proofs.fill_profile.Statement.{statement}
+use Rattle.entries.proofs.fill_profile.Tie as tie
+
+discharge-requires : tie.Need-discharge-requires
+discharge-requires c κs =
+    let start = c .before .before in
+    let h = start .pre in
+    let ranges = h .entry in
+    let small = discharge-volume-le (start .args .c) _ _ ranges (h .volume) in
+    ((omega (arith, h .cycle, h .long), rw (h .long) (ranges .green)), (omega (arith, ranges .saturation), omega (arith, ranges .arriving), small))
+
+same-length : tie.Need-same-length
+same-length c = search needs
+
+returns : tie.Need-returns
+unfolding entryProfile
+returns c =
+    let at-discharge = c .before .before in
+    let start = at-discharge .before .before .before in
+    at-discharge .discharge .ensures ∙ rw (start .pre .long, start .pre .volume)
+
+pub fill-profile-spec : {M : Type 1} → statement M
+fill-profile-spec = tie.close (tie.spec discharge-requires same-length returns)
