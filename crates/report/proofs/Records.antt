@@ -7,8 +7,8 @@ use lib.ListN.{length, take, drop}
 use borrow.Author.Tests.{lt-ltb, le-ltb}
 use Rattle.limits.specs.Limits.{mostCycle}
 use Rattle.octets.specs.Octets.{word2, word4}
-use Rattle.text.specs.Text.{cursor, put, Wrote}
-use Rattle.text.specs.Appending.{put-append, put-nil}
+use Rattle.buffer.specs.Buffer.{cursor, put, Wrote}
+use Rattle.buffer.specs.Pieces.{put-append, put-nil}
 use Rattle.segment.specs.Layout.{size, cycleAt}
 use Rattle.segment.specs.Segment.{segmentOf}
 use Rattle.propagation.specs.Propagation.{Profiles}

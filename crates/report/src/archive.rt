@@ -2,7 +2,7 @@
 ghost use mathlib.Core.Path.{_≡_};
 ghost use lib.ListN.{length};
 ghost use Rattle.limits.specs.Limits.{mostCycle};
-ghost use Rattle.text.specs.Text.{Wrote};
+ghost use Rattle.buffer.specs.Buffer.{Wrote};
 ghost use Rattle.segment.specs.Layout.{size};
 ghost use Rattle.propagation.specs.Propagation.{profiles};
 ghost use Rattle.propagation.specs.Steps.{Room};

@@ -1,5 +1,5 @@
 -- `closing_line`: three pieces, one after another.
-use Rattle.text.specs.Appending.{_then_}
+use Rattle.buffer.specs.Pieces.{_then_}
 use Rattle.vectors.specs.Vectors.{closingLine}
 use borrow.Author.Needs.{needs}
 use Rattle.vectors.proofs.closing_line.Statement.{statement}
@@ -14,11 +14,11 @@ slice-aggregate-append-field c = search needs
 append-field-requires : tie.Need-append-field-requires
 append-field-requires c κs = search needs
 
-slice-aggregate-append-bytes : tie.Need-slice-aggregate-append-bytes
-slice-aggregate-append-bytes c = search needs
+slice-aggregate-put : tie.Need-slice-aggregate-put
+slice-aggregate-put c = search needs
 
-append-bytes-requires : tie.Need-append-bytes-requires
-append-bytes-requires c κs = search needs
+put-requires : tie.Need-put-requires
+put-requires c κs = search needs
 
 same-length : tie.Need-same-length
 same-length c = search needs
@@ -29,7 +29,7 @@ returns c =
     let at-bytes = c .before .before in
     let at-field = at-bytes .before .before .before .before .before in
     let at-decimal = at-field .before .before .before .before .before in
-    at-decimal .append-decimal .ensures then at-field .append-field .ensures then at-bytes .append-bytes .ensures
+    at-decimal .append-decimal .ensures then at-field .append-field .ensures then at-bytes .put .ensures
 
 pub closing-line-spec : {M : Type 1} → statement M
 closing-line-spec =
@@ -38,7 +38,7 @@ closing-line-spec =
     append-decimal-requires
     slice-aggregate-append-field
     append-field-requires
-    slice-aggregate-append-bytes
-    append-bytes-requires
+    slice-aggregate-put
+    put-requires
     same-length
     returns)
