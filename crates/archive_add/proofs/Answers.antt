@@ -20,7 +20,9 @@ use Rattle.archive_format.specs.Sizes.{body-bound}
 use Rattle.archive_format.specs.Joined.{body-append, body-next}
 use Rattle.archive_open.specs.declared.Opened.the-variants.{Invalid}
 use Rattle.archive_open.specs.Opening.{openedOf, invalid, Held, held-run, held-fits}
-use Rattle.archive_write.specs.Writing.{putAt, Wrote, recordBytes, grown, record-length}
+use Rattle.buffer.specs.Buffer.{Wrote}
+use Rattle.buffer.specs.Pieces.{wrote-fits}
+use Rattle.archive_write.specs.Writing.{recordBytes, grown, record-length}
 use Rattle.archive_add.specs.Adds.{Adds}
 
 -- ---- the encoding of one record more
@@ -119,13 +121,11 @@ module _ (e : Edition) (l b ti out : List ℕ) where
             add-full f = no 18 (rw (h .is, eq-eqb _ _ sized, fits, ← h .last-is, lt-ltb _ _ above, more-length e l h b ti sized, le-leb _ _ room, ← counted e l h, le-ltb _ _ f))
 
             pub add-done : Bytes l → count < recordLimit → {r : ℕ} {out′ : List ℕ} → Wrote out 0 (grown e l count t b ti) out′ r → Adds e l b ti out (Value r) out′
-            unfolding addOf addTo need putAt
+            unfolding addOf addTo need
             add-done hb f {r} {out′} w =
                 let y : addOf e l b ti (length out) ≡ ok (encode e (h .fs ++ single b ti)) =
                 rw (h .is, eq-eqb _ _ sized, fits, ← h .last-is, lt-ltb _ _ above, more-length e l h b ti sized, le-leb _ _ room, ← counted e l h, lt-ltb _ _ f) in
                 let g : grown e l count t b ti ≡ encode e (h .fs ++ single b ti) = grown-is e l h b ti hb in
                 let v : Wrote out 0 (encode e (h .fs ++ single b ti)) out′ r = rw g at w in
-                record {
-                  answer = rw y (ap (λ (z : ℕ). Value z) (v .place ∙ zero-add (length (encode e (h .fs ++ single b ti)))));
-                  buffer = rw y (v .buffer ∙ rw zero-add);
-                }
+                let f : _ = wrote-fits v (omega (arith, more-length e l h b ti sized)) in
+                record { answer = rw y (ap (λ (z : ℕ). Value z) (f .1 ∙ zero-add (length (encode e (h .fs ++ single b ti))))); buffer = rw y (f .0 ∙ rw zero-add) }

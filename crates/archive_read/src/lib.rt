@@ -1,32 +1,12 @@
 // Reading archives of segment records: how many, the place of each, finding by number, titles.
 // Each call says the paper's number of a refusal; none asks anything of its caller.
 ghost use mathlib.Core.Path.{_≡_};
-ghost use mathlib.Core.Bool.{true};
-ghost use Prim.Native.Nat.{_≤_};
-ghost use lib.ListN.{length};
-ghost use Rattle.archive_format.specs.Archive.{Sized, filedFrom, runs, findIn, answerOf, countOf, placeOf, findOf, titlePartOf, titleOf, firstEdition};
+ghost use Rattle.archive_format.specs.Archive.{Sized, answerOf, countOf, placeOf, findOf, titlePartOf, titleOf, firstEdition};
 use archive_format::Answer;
 use archive_format::Edition;
 use archive_format::FIRST_EDITION;
 use archive_format::TitlePart;
 use archive_open::Opened;
-
-// The place of the record with a number, in an archive that was read.
-fn seek(size: usize, s: &[u8], count: usize, t: usize, number: u32) -> Answer
-    requires { ⌜ Sized size × (t ≤ length (now s)) × (runs size count (now s) t 0 t ≡ true) ⌝ }
-    ensures { λ r. ⌜ r ≡ answerOf (findIn size 0 (filedFrom size count (now (s .entry)) 0) number) ⌝ }
-{
-    let mut i = 0;
-    let mut at = 0;
-    while i < count {
-        if octets::word4_at(s, at) == number {
-            return Answer::Value(at);
-        }
-        at = at + size + 1 + archive_open::long(s[at + size]);
-        i += 1;
-    }
-    Answer::Refused(6)
-}
 
 fn count_in(e: Edition, s: &[u8]) -> Answer
     requires { ⌜ Sized (e .size) ⌝ }
@@ -73,9 +53,9 @@ fn find_in(e: Edition, s: &[u8], number: u32) -> Answer
         Opened::Invalid(n) => Answer::Refused(n),
         Opened::Valid {
             count,
-            trailer,
+            trailer: _,
             last: _,
-        } => seek(e.size, s, count, trailer, number),
+        } => archive_open::seek(e.size, s, count, number),
     }
 }
 

@@ -1,4 +1,4 @@
--- Bytes written into a buffer, and the parts of an archive as they are written.
+-- The parts of an archive, as they are written.
 use Prim.Native.Nat.{ℕ, _+_, _*_, _≤_, _<_}
 use native.Mathlib.Omega.{arith}
 use mathlib.Core.Path.{_≡_}
@@ -7,15 +7,6 @@ use lib.ListN.{length, take, drop, length-append}
 use Rattle.octets.specs.Octets.{bytes2}
 use Rattle.archive_format.specs.declared.Edition.{Edition}
 use Rattle.archive_format.specs.Archive.{recordLimit}
-
--- a buffer with other bytes from a place on
-unfoldable pub putAt : List ℕ → ℕ → List ℕ → List ℕ
-putAt d at s = take at d ++ (s ++ drop (at + length s) d)
-
--- what was written to d from a place on: the buffer afterwards, and the next place
-pub record Wrote (d : List ℕ) (at : ℕ) (s out : List ℕ) (next : ℕ) : Type 0 where
-  pub place : next ≡ at + length s
-  pub buffer : out ≡ putAt d at s
 
 abbrev pub recordBytes : List ℕ → List ℕ → List ℕ
 recordBytes b t = b ++ (length t ∷ t)

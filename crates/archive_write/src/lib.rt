@@ -1,11 +1,13 @@
 // Writing an archive with one record more into a lent buffer, part by part from a place on; each part returns the place after it.
 // A lower layer's function: `grow` asks of its caller that the bytes fit.
 ghost use mathlib.Core.Path.{_≡_};
-ghost use Prim.Native.Nat.{_+_, _/_, _%_, _≤_, _<_};
+ghost use Prim.Native.Nat.{_/_, _%_, _<_};
 ghost use lib.ListN.{length};
 ghost use Rattle.octets.specs.Octets.{bytes2};
-ghost use Rattle.archive_write.specs.Writing.{Wrote, recordBytes, endBytes, grown, Fits};
+ghost use Rattle.buffer.specs.Buffer.{Wrote};
+ghost use Rattle.archive_write.specs.Writing.{recordBytes, endBytes, grown, Fits};
 use archive_format::Edition;
+use buffer::put;
 
 fn low(x: usize) -> u8
     ensures { λ r. ⌜ r ≡ x % 256 ⌝ }
@@ -20,21 +22,9 @@ fn high(x: usize) -> u8
     (x / 256) as u8
 }
 
-fn put(out: &mut [u8], at: usize, s: &[u8]) -> usize
-    requires { ⌜ at + length (now s) ≤ length (now out) ⌝ }
-    ensures { λ r. ⌜ Wrote (now (out .entry)) at (now (s .entry)) (now (out .exit)) r ⌝ }
-{
-    let mut i = 0;
-    while i < s.len() {
-        out[at + i] = s[i];
-        i += 1;
-    }
-    at + s.len()
-}
-
 // A record, its title's length and its title.
 fn put_record(out: &mut [u8], at: usize, segment: &[u8], title: &[u8]) -> usize
-    requires { ⌜ (length (now title) < 256) × (at + length (now segment) + 1 + length (now title) ≤ length (now out)) ⌝ }
+    requires { ⌜ length (now title) < 256 ⌝ }
     ensures { λ r. ⌜ Wrote (now (out .entry)) at (recordBytes (now (segment .entry)) (now (title .entry))) (now (out .exit)) r ⌝ }
 {
     let a = put(out, at, segment);
@@ -45,7 +35,7 @@ fn put_record(out: &mut [u8], at: usize, segment: &[u8], title: &[u8]) -> usize
 
 // A place, in two bytes.
 fn put_place(out: &mut [u8], at: usize, place: usize) -> usize
-    requires { ⌜ (place < 65536) × (at + 2 ≤ length (now out)) ⌝ }
+    requires { ⌜ place < 65536 ⌝ }
     ensures { λ r. ⌜ Wrote (now (out .entry)) at (bytes2 place) (now (out .exit)) r ⌝ }
 {
     let lo = low(place);
@@ -56,7 +46,7 @@ fn put_place(out: &mut [u8], at: usize, place: usize) -> usize
 
 // What ends a trailer after its places: the count, the trailer's own place, the mark.
 fn put_end(e: Edition, out: &mut [u8], at: usize, count: usize, trailer: usize) -> usize
-    requires { ⌜ (count < 65536) × (trailer < 65536) × (at + 6 ≤ length (now out)) ⌝ }
+    requires { ⌜ (count < 65536) × (trailer < 65536) ⌝ }
     ensures { λ r. ⌜ Wrote (now (out .entry)) at (endBytes e count trailer) (now (out .exit)) r ⌝ }
 {
     let count_lo = low(count);

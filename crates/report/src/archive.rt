@@ -2,16 +2,17 @@
 ghost use mathlib.Core.Path.{_≡_};
 ghost use lib.ListN.{length};
 ghost use Rattle.limits.specs.Limits.{mostCycle};
-ghost use Rattle.text.specs.Text.{Wrote};
+ghost use Rattle.buffer.specs.Buffer.{Wrote};
 ghost use Rattle.segment.specs.Layout.{size};
 ghost use Rattle.propagation.specs.Propagation.{profiles};
 ghost use Rattle.propagation.specs.Steps.{Room};
 ghost use Rattle.archive_format.specs.Archive.{filedFrom};
+ghost use Rattle.archive_open.specs.Walking.{Walk};
 ghost use Rattle.report.specs.Report.{archiveText, inputText, recordsText, segmentText};
-ghost use Rattle.report.specs.Running.{Runs};
 use crate::INPUT_LIMIT;
 use archive_format::FIRST_EDITION;
 use archive_open::Opened;
+use archive_open::next_place;
 use archive_open::open;
 
 fn segment_text(
@@ -31,7 +32,7 @@ fn segment_text(
     report_record::record_text(text, at, number, cycle, w)
 }
 
-// So many records from place 0 on, in order: the next record starts after the title.
+// So many records from place 0 on, in order.
 fn records_text(
     text: &mut [u8],
     at: usize,
@@ -41,16 +42,22 @@ fn records_text(
     first: &mut [u32],
     second: &mut [u32],
 ) -> usize
-    requires { ⌜ Runs count (now archive) × Room mostCycle (profiles (now output) (now first) (now second)) ⌝ }
+    requires { ⌜ Walk size (now archive) count 0 × Room mostCycle (profiles (now output) (now first) (now second)) ⌝ }
     ensures { λ r. ⌜ Wrote (now (text .entry)) at (recordsText (filedFrom size count (now (archive .entry)) 0)) (now (text .exit)) r ⌝ }
 {
     let mut left = count;
     let mut place: usize = 0;
     let mut p = at;
     while 0 < left {
-        let end = place + segment::SIZE;
-        p = segment_text(text, p, &archive[place..end], output, first, second);
-        place = end + 1 + octets::byte_at(archive, end) as usize;
+        p = segment_text(
+            text,
+            p,
+            &archive[place..place + segment::SIZE],
+            output,
+            first,
+            second,
+        );
+        place = next_place(segment::SIZE, archive, place);
         left -= 1;
     }
     p

@@ -1,14 +1,13 @@
 // The lines that the program prints, from plain numbers, appended to a lent buffer. None of the calls asks anything of its caller.
-ghost use Rattle.text.specs.Text.{Wrote};
+ghost use Rattle.buffer.specs.Buffer.{Wrote};
 ghost use Rattle.report_lines.specs.Lines.{accessLine, archiveRefusedLine, blockedLine, exitLine, newline, recordLine, refusedLine};
 use exit_figures::ExitFigures;
-use text::append_bytes;
 use text::append_field;
 
 fn end_line(text: &mut [u8], at: usize) -> usize
     ensures { λ r. ⌜ Wrote (now (text .entry)) at newline (now (text .exit)) r ⌝ }
 {
-    append_bytes(text, at, b"\n")
+    buffer::put(text, at, b"\n")
 }
 
 pub fn record_line(

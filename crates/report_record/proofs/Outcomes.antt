@@ -2,7 +2,7 @@
 use Prim.Native.Nat.{ℕ}
 use mathlib.Core.Path.{_≡_, ap, sym, _∙_}
 use mathlib.Core.List.{List}
-use Rattle.text.specs.Text.{cursor, put, Wrote}
+use Rattle.buffer.specs.Buffer.{cursor, put, Wrote}
 use Rattle.balance_decision.specs.declared.Outcome.{Outcome}
 use Rattle.working_outcome.specs.declared.Working.{Working}
 use Rattle.report_record.specs.Record.{textBy, recordText}

@@ -1,5 +1,5 @@
 // The lines of one record, from its number, its cycle and what its working answered, appended to a lent buffer.
-ghost use Rattle.text.specs.Text.{Wrote};
+ghost use Rattle.buffer.specs.Buffer.{Wrote};
 ghost use Rattle.report_record.specs.Record.{recordText, workedText};
 use balance_decision::Outcome;
 use report_lines::access_line;

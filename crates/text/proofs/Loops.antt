@@ -1,62 +1,12 @@
--- The loops that append a piece and spell a number's digits.
-use Prim.Native.Nat.{ℕ, suc, _+_, _-_, _/_, _%_, _≤_, _<_, min}
+-- The loop that spells a number's digits.
+use Prim.Native.Nat.{ℕ, suc, _+_, _-_, _/_, _%_, _≤_, _<_}
 use native.Mathlib.Omega.{arith}
-use native.Mathlib.Numerals.{add-one}
-use mathlib.Core.Path.{_≡_, refl, sym, _∙_}
+use mathlib.Core.Path.{_≡_, sym, _∙_}
 use mathlib.Core.List.{List, _∷_, _++_, append-assoc, append-nil}
-use lib.Dec.{leb}
-use mathlib.Core.Bool.{Bool, true, false}
-use lib.ListN.{length, take, drop, set, getD, length-set, length-drop, drop-of-length-le}
-use lib.Seq.{sets, drop-cons, set-split, drop-at, length-take-le, take-all}
-use borrow.Author.Tests.{leb-true, leb-false, eq-eqb, ne-eqb}
-use Rattle.text.specs.Text.{put, nextPlace, Wrote, Spelt, decimal, digits}
-use Rattle.text.specs.Appending.{sets-out}
-
-ended : (b : List ℕ) (at : ℕ) (piece : List ℕ) {b′ : List ℕ} {p : ℕ} → b′ ≡ sets b at piece → p ≡ nextPlace b at piece → Wrote b at piece b′ p
-unfolding put
-ended b at piece e f = record { is = rw (e, f) }
-
-pub past : (b : List ℕ) (at : ℕ) (piece : List ℕ) → length b < at → Wrote b at piece b at
-unfolding nextPlace
-past b at piece h = ended _ _ _ (sym (sets-out b at piece (omega arith))) (omega arith)
-
--- as much of the piece as there is room for, up to number i
-pub record Copying (b₀ : List ℕ) (at : ℕ) (piece : List ℕ) (n : ℕ) (b : List ℕ) (i : ℕ) : Type 0 where
-  pub within : i ≤ n
-  pub most : n ≡ min (length piece) (length b₀ - at)
-  pub start : at ≤ length b₀
-  pub long : length b ≡ length b₀
-  pub same : sets b₀ at piece ≡ sets b (at + i) (drop i piece)
-
-pub copy-start : (b : List ℕ) (at : ℕ) (piece : List ℕ) {n : ℕ} → at ≤ length b → n ≡ min (length piece) (length b - at) → Copying b at piece n b 0
-copy-start b at piece h e =
-    let z : at + 0 ≡ at = omega arith in
-    record { within = omega arith; most = e; start = h; long = refl; same = rw z }
-
-module _ {b₀ : List ℕ} {at : ℕ} {piece : List ℕ} {n : ℕ} {b : List ℕ} {i : ℕ} (r : Copying b₀ at piece n b i) where
-  -- what is copied lies in the piece and in the buffer
-  pub copy-fits : (n ≤ length piece) × (at + n ≤ length b)
-  copy-fits = omega (arith, r .most, r .start, r .long)
-
-  pub copy-turn : i < n → Copying b₀ at piece n (set b (at + i) (getD piece i 0)) (i + 1)
-  copy-turn more =
-      let e : at + suc i ≡ suc (at + i) = omega arith in
-      let h : i < length piece = omega (arith, copy-fits) in
-      record {
-        within = omega arith;
-        most = r .most;
-        start = r .start;
-        long = simp length-set (r .long);
-        same = r .same ∙ rw (add-one, e, drop-cons piece i 0);
-      }
-
-  pub copy-done : n ≤ i → Wrote b₀ at piece b (at + n)
-  unfolding nextPlace
-  copy-done end = ended _ _ _ (sym (r .same ∙ go (leb (length piece) i) refl)) (omega (arith, r .most, r .start))
-    where
-      go : (x : Bool) → leb (length piece) i ≡ x → sets b (at + i) (drop i piece) ≡ b
-      go true e = rw (drop-of-length-le piece {i = i} (leb-true (length piece) i e))
-      go false e = sets-out b (at + i) (drop i piece) (omega (arith, leb-false (length piece) i e, r .within, r .most, r .start, r .long))
+use lib.ListN.{length, take, drop, set, length-set, length-drop, drop-of-length-le}
+use lib.Seq.{set-split, drop-at, length-take-le, take-all}
+use borrow.Author.Tests.{eq-eqb, ne-eqb}
+use Rattle.text.specs.Text.{Spelt, decimal, digits}
 
 -- the digits, from the last to the first
 pub record Spelling (n : ℕ) (d : List ℕ) (k rest : ℕ) : Type 0 where

@@ -1,33 +1,8 @@
-// Text appended piece after piece to a lent buffer, as much of it as the buffer has room for. None of the calls asks anything of its caller.
+// Numbers and labels appended to a lent buffer, as much of them as it has room for. None of the calls asks anything of its caller.
 ghost use mathlib.Core.Path.{_≡_};
-ghost use Prim.Native.Nat.{min};
 ghost use lib.ListN.{length};
-ghost use Rattle.text.specs.Text.{Wrote, Spelt, decimal, field};
-
-fn least(a: usize, b: usize) -> usize
-    ensures { λ r. ⌜ r ≡ min a b ⌝ }
-{
-    if a < b {
-        return a;
-    }
-    b
-}
-
-// The piece from place `at` on; the next place is handed back.
-pub fn append_bytes(text: &mut [u8], at: usize, piece: &[u8]) -> usize
-    ensures { λ r. ⌜ Wrote (now (text .entry)) at (now (piece .entry)) (now (text .exit)) r ⌝ }
-{
-    if text.len() < at {
-        return at;
-    }
-    let n = least(piece.len(), text.len() - at);
-    let mut i = 0;
-    while i < n {
-        text[at + i] = piece[i];
-        i += 1;
-    }
-    at + n
-}
+ghost use Rattle.buffer.specs.Buffer.{Wrote};
+ghost use Rattle.text.specs.Text.{Spelt, decimal, field};
 
 // The decimal digits of n at the end of twenty places; where they start is handed back.
 fn spell(n: u64, places: &mut [u8]) -> usize
@@ -52,13 +27,13 @@ pub fn append_decimal(text: &mut [u8], at: usize, n: u64) -> usize
 {
     let mut places = [0u8; 20];
     let start = spell(n, &mut places);
-    append_bytes(text, at, &places[start..20])
+    buffer::put(text, at, &places[start..20])
 }
 
 // A label and a number.
 pub fn append_field(text: &mut [u8], at: usize, label: &[u8], n: u64) -> usize
     ensures { λ r. ⌜ Wrote (now (text .entry)) at (field (now (label .entry)) n) (now (text .exit)) r ⌝ }
 {
-    let p = append_bytes(text, at, label);
+    let p = buffer::put(text, at, label);
     append_decimal(text, p, n)
 }

@@ -4,7 +4,7 @@ ghost use Prim.Native.Nat.{_+_, _-_, _*_, _≤_, _<_, _^_};
 ghost use lib.Ieee.{binary64, toBits};
 ghost use lib.ListN.{length};
 ghost use Rattle.octets.specs.Octets.{word4};
-ghost use Rattle.text.specs.Text.{Wrote};
+ghost use Rattle.buffer.specs.Buffer.{Wrote};
 ghost use Rattle.vectors.specs.Vectors.{closingLine, floatDiffers, pattern, rowsDiffer, wordsDiffer};
 use libc::STDIN_FILENO;
 use libc::STDOUT_FILENO;
@@ -51,7 +51,7 @@ fn closing_line(line: &mut [u8], cases: u32, differing: u32) -> usize
 {
     let p = text::append_decimal(line, 0, cases as u64);
     let q = text::append_field(line, p, b" cases, ", differing as u64);
-    text::append_bytes(line, q, b" differs\n")
+    buffer::put(line, q, b" differs\n")
 }
 
 // Writes the closing line, and leaves it in the lent buffer.

@@ -1,12 +1,16 @@
-use native.Mathlib.Omega.{arith}
+-- Finding answers what opening refuses, or the place that seeking finds among the records.
 use mathlib.Core.Path.{sym, _∙_}
 use borrow.Author.Needs.{needs}
-use Rattle.archive_open.specs.Opening.{Held, held, held-fits, held-run}
+use Rattle.archive_open.specs.Opening.{Held, held}
+use Rattle.archive_open.specs.Walking.{held-walk}
 use Rattle.archive_read.proofs.Answers.{find-invalid, find-valid}
 use Rattle.archive_read.proofs.find_in.Statement.{statement}
 use Rattle.archive_read.proofs.find_in.Tie as tie
 
-here : (c : tie.After-o2) → Held (c .before .before .before .before .args .e) (c .before .before .before .before .args .s .now) (c .o2 .given .0 .0) (c .o2 .given .0 .1 .0) (c .o2 .given .0 .1 .1 .0)
+abbrev start : tie.After-o2 → tie.Start
+start c = c .before .before .before .before
+
+here : (c : tie.After-o2) → let a = start c .args in Held (a .e) (a .s .now) (c .o2 .given .0 .0) (c .o2 .given .0 .1 .0) (c .o2 .given .0 .1 .1 .0)
 here c = held (sym (c .before .before .open .ensures) ∙ c .o2 .given .1)
 
 open-requires : tie.Need-open-requires
@@ -19,7 +23,7 @@ enum-known-o-2 : tie.Need-enum-known-o-2
 enum-known-o-2 c = search needs
 
 seek-requires : tie.Need-seek-requires
-seek-requires c κs = (search needs, omega (arith, held-fits _ _ (here (c .before))), held-run _ _ (here (c .before)))
+seek-requires c κs = (search needs, held-walk _ _ (here (c .before)))
 
 returns : tie.Need-returns
 returns c = find-invalid _ _ _ _ (sym (c .before .before .before .open .ensures) ∙ c .before .o .given .1)

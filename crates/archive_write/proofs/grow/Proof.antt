@@ -1,24 +1,33 @@
-use Prim.Native.Nat.{_+_, _*_}
+-- The five parts are put one after another; the place that the new record's part hands back is the new trailer's.
+use Prim.Native.Nat.{_+_}
 use native.Mathlib.Omega.{arith}
-use mathlib.Core.Path.{_∙_}
+use mathlib.Core.Path.{_≡_}
 use lib.ListN.{length}
 use borrow.Author.Needs.{needs}
-use Rattle.archive_write.proofs.Parts.{Cut, Reached, part-length, whole-put}
-use Rattle.archive_write.specs.Writing.{record-length}
+use Rattle.archive_write.specs.Writing.{recordBytes, record-length}
+use Rattle.archive_write.proofs.Parts.{trailer-is, whole-put}
 use Rattle.archive_write.proofs.grow.Statement.{statement}
 use Rattle.archive_write.proofs.grow.Tie as tie
 
-abbrev start : tie.After-put-record → tie.Start
-start c = c .before .before .before .before .before .before .before .before .before .before .before
+abbrev start : tie.After-put → tie.Start
+start c = let lent = c .before .before .before .before in lent .before .before .before
 
-cut : (c : tie.Start) → Cut (c .args .s .now) (c .args .t) (c .args .count)
-cut c = part-length _ _ _ (c .pre .held)
+abbrev old-records : tie.After-put-record → tie.After-put
+old-records c = c .before .before .before .before
 
-after-record : (c : tie.After-put-record) → Reached (start c .args .out .now) (c .put-record .last .0) (c .put-record .result) (start c .args .t + length (start c .args .segment .now) + 1 + length (start c .args .title .now))
-after-record c = record { place = omega (arith, cut (start c), record-length (start c .args .segment .now) (start c .args .title .now), c .before .before .before .before .put .ensures .place, c .put-record .ensures .place); long = c .put-record .kept .0 ∙ c .before .before .before .before .put .kept .0 }
+abbrev new-record : tie.After-put2 → tie.After-put-record
+new-record c = let parts = c .before .before in parts .before .before .before
 
-after-places : (c : tie.After-put2) → Reached (start (c .before .before .before .before .before) .args .out .now) (c .put2 .last .0) (c .put2 .result) (c .before .before .before .before .before .put-record .result + 2 * (start (c .before .before .before .before .before) .args .count))
-after-places c = record { place = omega (arith, cut (start (c .before .before .before .before .before)), c .put2 .ensures .place); long = c .put2 .kept .0 ∙ after-record (c .before .before .before .before .before) .long }
+abbrev old-places : tie.After-put-place → tie.After-put2
+old-places c = c .before .before .before .before
+
+-- the new record ends where the new trailer stands
+ends : (c : tie.After-put-record) → let a = start (old-records c) .args in
+    c .put-record .result ≡ a .t + length (recordBytes (a .segment .now) (a .title .now))
+ends c =
+    let o = old-records c in
+    let a = start o .args in
+    trailer-is (a .s .now) (a .segment .now) (a .title .now) (start o .pre) (o .put .ensures) (c .put-record .ensures)
 
 sub-put : tie.Need-sub-put
 sub-put c = search needs
@@ -51,22 +60,35 @@ part-put-end-2 : tie.Need-part-put-end-2
 part-put-end-2 c = search needs
 
 put-requires-2 : tie.Need-put-requires-2
-put-requires-2 c κs = let r = c .before .before .before .before in omega (arith, after-record r, cut (start r), start r .pre .enough)
+put-requires-2 c κs = search needs
 
 put-place-requires : tie.Need-put-place-requires
-put-place-requires c κs = let p = c .before .before .before in let r = p .before .before .before .before .before in (omega (arith, start r .pre .placed), omega (arith, after-record r, after-places p, start r .pre .enough))
+put-place-requires c κs =
+    let r = new-record (c .before .before .before) in
+    omega (arith, start (old-records r) .pre .placed)
 
 add-put-end : tie.Need-add-put-end
 add-put-end c = search needs
 
 put-end-requires : tie.Need-put-end-requires
-put-end-requires c κs = let l = c .before .before .before in let p = l .before .before .before .before in let r = p .before .before .before .before .before in (omega (arith, start r .pre .few), omega (arith, after-record r, start r .pre .placed), omega (arith, after-record r, after-places p, l .put-place .ensures .place, l .put-place .kept .0, start r .pre .enough))
+put-end-requires c κs =
+    let r = new-record (old-places (c .before .before .before)) in
+    let s = start (old-records r) in
+    (omega (arith, s .pre .few), omega (arith, ends r, record-length (s .args .segment .now) (s .args .title .now), s .pre .placed))
 
 same-length : tie.Need-same-length
 same-length c = search needs
 
 returns : tie.Need-returns
-returns c = let l = c .before .before .before .before .before .before in let p = l .before .before .before .before in let r = p .before .before .before .before .before in whole-put _ _ _ _ _ _ (start r .pre .held) (start r .pre .enough) (r .before .before .before .before .put .ensures) (r .put-record .ensures) (p .put2 .ensures) (l .put-place .ensures) (c .before .before .put-end .ensures)
+returns c =
+    let at-end = c .before .before in
+    let at-place = at-end .before .before .before .before in
+    let at-places = old-places at-place in
+    let r = new-record at-places in
+    let o = old-records r in
+    let s = start o in
+    whole-put _ _ _ (s .pre) (o .put .ensures) (r .put-record .ensures) (s .args .e) (at-places .put2 .ensures) (at-place .put-place .ensures)
+    (at-end .put-end .ensures)
 
 pub grow-spec : {M : Type 1} → statement M
 grow-spec =

@@ -1,3 +1,4 @@
+-- The count and the trailer's place are put as two bytes each, then the mark.
 use borrow.Author.Needs.{needs}
 use Rattle.archive_write.proofs.Parts.{end-put}
 use Rattle.archive_write.proofs.put_end.Statement.{statement}
@@ -32,7 +33,8 @@ returns c =
     let at-high = at-low2 .before in
     let at-low = at-high .before in
     let start = at-low .before .before in
-    end-put (start .args .e) _ _ (at-low .low .ensures) (at-high .high .ensures) (at-low2 .low2 .ensures) (at-high2 .high2 .ensures) (at-put .put .ensures)
+    end-put (start .args .e) _ _ (at-low .low .ensures) (at-high .high .ensures) (at-low2 .low2 .ensures) (at-high2 .high2 .ensures)
+    (at-put .put .ensures)
 
 pub put-end-spec : {M : Type 1} → statement M
 put-end-spec =

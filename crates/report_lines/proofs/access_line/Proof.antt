@@ -1,5 +1,5 @@
 -- What the calls wrote, one after another, is the line: the field of the total and its end.
-use Rattle.text.specs.Appending.{_then_}
+use Rattle.buffer.specs.Pieces.{_then_}
 use Rattle.report_lines.specs.Lines.{accessLine}
 use borrow.Author.Needs.{needs}
 use Rattle.report_lines.proofs.access_line.Statement.{statement}

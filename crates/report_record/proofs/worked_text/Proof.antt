@@ -1,5 +1,5 @@
 -- What the six calls wrote, one after another, is the text.
-use Rattle.text.specs.Appending.{_then_}
+use Rattle.buffer.specs.Pieces.{_then_}
 use Rattle.report_record.specs.Record.{workedText}
 use borrow.Author.Needs.{needs}
 use Rattle.report_record.proofs.worked_text.Statement.{statement}

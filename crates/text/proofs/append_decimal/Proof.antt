@@ -9,23 +9,23 @@ slice-aggregate-spell c = search needs
 spell-requires : tie.Need-spell-requires
 spell-requires c κs = search needs
 
-sub-append-bytes : tie.Need-sub-append-bytes
-sub-append-bytes c = search needs
+sub-put : tie.Need-sub-put
+sub-put c = search needs
 
-part-append-bytes-start : tie.Need-part-append-bytes-start
-part-append-bytes-start c = search needs
+part-put-start : tie.Need-part-put-start
+part-put-start c = search needs
 
-part-append-bytes-end : tie.Need-part-append-bytes-end
-part-append-bytes-end c = search needs
+part-put-end : tie.Need-part-put-end
+part-put-end c = search needs
 
-append-bytes-requires : tie.Need-append-bytes-requires
-append-bytes-requires c κs = search needs
+put-requires : tie.Need-put-requires
+put-requires c κs = search needs
 
 same-length : tie.Need-same-length
 same-length c = search needs
 
 returns : tie.Need-returns
-returns c = rw (← (spelt-part (c .before .before .before .before .before .before .before .spell .ensures))) (c .before .before .append-bytes .ensures)
+returns c = rw (← (spelt-part (c .before .before .before .before .before .before .before .spell .ensures))) (c .before .before .put .ensures)
 
 pub append-decimal-spec : {M : Type 1} → statement M
 append-decimal-spec =
@@ -33,9 +33,9 @@ append-decimal-spec =
     (tie.spec
     slice-aggregate-spell
     spell-requires
-    sub-append-bytes
-    part-append-bytes-start
-    part-append-bytes-end
-    append-bytes-requires
+    sub-put
+    part-put-start
+    part-put-end
+    put-requires
     same-length
     returns)

@@ -1,5 +1,5 @@
 -- What the three calls wrote, one after another, is the closing line.
-use Rattle.text.specs.Appending.{_then_}
+use Rattle.buffer.specs.Pieces.{_then_}
 use Rattle.vectors.specs.Vectors.{closingLine}
 use borrow.Author.Needs.{needs}
 use Rattle.vectors.proofs.closing_line.Statement.{statement}

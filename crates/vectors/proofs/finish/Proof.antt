@@ -2,7 +2,7 @@
 use mathlib.Core.Path.{sym}
 use native.Mathlib.Omega.{arith}
 use lib.Seq.{length-take-le}
-use Rattle.text.specs.Appending.{wrote-within}
+use Rattle.buffer.specs.Pieces.{wrote-within}
 use borrow.Author.Needs.{needs}
 use Rattle.vectors.proofs.finish.Statement.{statement}
 use Rattle.vectors.proofs.finish.Tie as tie

@@ -8,14 +8,14 @@ use lib.Dec.{leb}
 use lib.ListN.{length, take, drop, set, length-append}
 use lib.Seq.{sets, length-sets, set-out, sets-eq}
 use borrow.Author.Tests.{leb-true, leb-false}
-use Rattle.text.specs.Text.{Cursor, cursor, put, nextPlace, Wrote}
+use Rattle.buffer.specs.Buffer.{Cursor, cursor, put, nextPlace, Wrote}
 
 -- past the end nothing is stored
 pub sets-out : (l : List ℕ) (i : ℕ) (vs : List ℕ) → length l ≤ i → sets l i vs ≡ l
 sets-out l i [] h = refl
 sets-out l i (v ∷ vs) h = rw (set-out l i v h) (sets-out l (suc i) vs (omega arith))
 
-sets-append : (l : List ℕ) (i : ℕ) (a b : List ℕ) → sets l i (a ++ b) ≡ sets (sets l i a) (i + length a) b
+pub sets-append : (l : List ℕ) (i : ℕ) (a b : List ℕ) → sets l i (a ++ b) ≡ sets (sets l i a) (i + length a) b
 sets-append l i [] b = let e : i + 0 ≡ i = omega arith in rw e
 sets-append l i (x ∷ a) b =
     let e : i + suc (length a) ≡ suc i + length a = omega arith in
@@ -33,11 +33,12 @@ by-room l at i vs le = go (leb i (length l)) refl
 pub put-append : (c : Cursor) (a b : List ℕ) → put c (a ++ b) ≡ put (put c a) b
 unfolding put nextPlace
 put-append c a b =
-    let e : nextPlace (c .buffer) (c .at) (a ++ b) ≡ nextPlace (sets (c .buffer) (c .at) a) (nextPlace (c .buffer) (c .at) a) b =
-    rw (length-sets, length-append) (omega arith) in
-    let f : sets (c .buffer) (c .at) (a ++ b) ≡ sets (sets (c .buffer) (c .at) a) (nextPlace (c .buffer) (c .at) a) b =
-    sets-append (c .buffer) (c .at) a b ∙ sym (rw length-sets at (by-room (sets (c .buffer) (c .at) a) (c .at) (c .at + length a) b (omega arith))) in
-    rw (e, f)
+    let one : List ℕ = sets (c .buffer) (c .at) a in
+    let next : ℕ = nextPlace (c .buffer) (c .at) a in
+    let e : nextPlace (c .buffer) (c .at) (a ++ b) ≡ nextPlace one next b = rw (length-sets, length-append) (omega arith) in
+    let f : sets (c .buffer) (c .at) (a ++ b) ≡ sets one next b =
+    sets-append (c .buffer) (c .at) a b ∙ sym (rw length-sets at (by-room one (c .at) (c .at + length a) b (omega arith))) in
+    rw e (ap (λ (z : List ℕ). cursor z (nextPlace one next b)) f)
 
 pub put-nil : (b : List ℕ) (at : ℕ) → put (cursor b at) [] ≡ cursor b at
 unfolding put nextPlace
