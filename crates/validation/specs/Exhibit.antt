@@ -42,7 +42,7 @@ seeds-add : (l : List ℕ) → ZeroSeeds l → seedsAdd (segmentOf l .seeds) ≡
 unfolding segmentOf seedsOf
 seeds-add l z = rw (table-zero l z) exhibit-adds
 
--- whatever the other fields, the check refuses by another number or not at all
+-- whatever the other fields, the check refuses by another number or not at all: each test has another number, or holds
 pub exhibit-stands : (l : List ℕ) → ZeroSeeds l → (r : Checked) → r ≡ checkedOf (checkOf l) → r ≡ Refused 12 → ⊥
 unfolding checkOf
 exhibit-stands l z r e q =

@@ -18,6 +18,7 @@ pub of-segment : (r : Checked) (l : List ℕ) (s : Segment) → s ≡ segmentOf 
 unfolding checkOf
 of-segment r l s is e = rw is at e
 
+-- a test that holds leaves those after it; one that fails answers its number
 pub passes : (r : Checked) (n : ℕ) (t : Bool) (x : Or Segment) → t ≡ true → r ≡ checkedOf x → r ≡ checkedOf (need n t x)
 unfolding need
 passes r n t x h e = rw h e
