@@ -3,11 +3,12 @@ use Prim.Native.Nat.{ℕ, _+_, _*_, _≤_, _<_}
 use native.Mathlib.Nat.{mul-le-mul, zero-add}
 use native.Mathlib.Omega.{arith}
 use mathlib.Core.Path.{_≡_, sym, ap, _∙_}
-use mathlib.Core.Bool.{true, false}
+use mathlib.Core.Bool.{Bool, true}
 use mathlib.Core.List.{List, [], _∷_, _++_, append-assoc, append-nil}
+use lib.Dec.{leb, ltb}
 use lib.ListN.{length, take, drop, length-append}
 use lib.Seq.{take-at}
-use borrow.Author.Tests.{leb-true, le-leb, lt-leb, lt-ltb, le-ltb, eq-eqb, ne-eqb}
+use borrow.Author.Tests.{leb-true, eq-eqb, ne-eqb}
 use Rattle.refusal.specs.Refusal.{refused, ok, need, both}
 use Rattle.octets.specs.Octets.{word4, bytes2}
 use Rattle.archive_format.specs.declared.Edition.{Edition}
@@ -49,13 +50,23 @@ module _ (e : Edition) (l : List ℕ) {count t last : ℕ} (h : Held e l count t
   fit : Fit e (h .fs)
   fit = decoded-is-fit e l (h .fs) (h .is)
 
+  -- so many records with titles of 40 bytes reach no further
+  bound : t ≤ count * (e .size + 1 + titleLimit)
+  bound = rw (counted, reached) (body-bound (e .size) (h .fs) (fit .shaped))
+
+  -- the old archive is small, whatever the buffer
+  pub held-small : Sized (e .size) → t + e .size + 2 * count ≤ 66134
+  held-small k =
+      let few : count ≤ recordLimit = rw (h .count-is) (h .read .many) in
+      let wide : e .size + 1 + titleLimit ≤ 127 = omega arith in
+      omega (arith, bound, mul-le-mul few wide)
+
   -- two bytes hold the new trailer's place
   pub held-next : (n : ℕ) → Sized (e .size) → count < recordLimit → n ≤ titleLimit → t + e .size + 1 + n < 65536
   held-next n k m s =
-      let b : t ≤ count * (e .size + 1 + titleLimit) = rw (counted, reached) (body-bound (e .size) (h .fs) (fit .shaped)) in
-      let c : count + 1 ≤ recordLimit = omega arith in
-      let w : e .size + 1 + titleLimit ≤ 127 = omega arith in
-      omega (arith, mul-le-mul c w)
+      let few : count + 1 ≤ recordLimit = omega arith in
+      let wide : e .size + 1 + titleLimit ≤ 127 = omega arith in
+      omega (arith, bound, mul-le-mul few wide)
 
   module _ (b ti : List ℕ) where
     body-length : length (body (h .fs ++ single b ti)) ≡ t + length (recordBytes b ti)
@@ -87,45 +98,34 @@ module _ (e : Edition) (l : List ℕ) {count t last : ℕ} (h : Held e l count t
 pub short-title : (ti : List ℕ) → titleFits ti ≡ true → length ti ≤ titleLimit
 short-title ti f = leb-true _ _ (both _ _ f .0)
 
-module _ (e : Edition) (l b ti out : List ℕ) where
-  no : (n : ℕ) → addOf e l b ti (length out) ≡ refused n → Adds e l b ti out (Refused n) out
-  no n r = record { answer = sym (rw r); buffer = sym (rw r) }
+pub add-refused : (e : Edition) (l b ti out : List ℕ) (n : ℕ) → addOf e l b ti (length out) ≡ refused n → Adds e l b ti out (Refused n) out
+add-refused e l b ti out n r = record { answer = sym (rw r); buffer = sym (rw r) }
 
-  pub add-invalid : (n : ℕ) → openedOf (decode e l) ≡ Invalid n → Adds e l b ti out (Refused n) out
+module _ (e : Edition) (l b ti : List ℕ) where
+  pub add-invalid : (room n : ℕ) → openedOf (decode e l) ≡ Invalid n → addOf e l b ti room ≡ refused n
   unfolding addOf
-  add-invalid n o = no n (rw (invalid e l n o))
+  add-invalid room n o = rw (invalid e l n o)
 
   module _ {count t last : ℕ} (h : Held e l count t last) where
-    pub add-sized : (length b ≡ e .size → ⊥) → Adds e l b ti out (Refused 6) out
+    pub add-sized : (room : ℕ) → (length b ≡ e .size → ⊥) → addOf e l b ti room ≡ refused 6
     unfolding addOf addTo need
-    add-sized f = no 6 (rw (h .is, ne-eqb _ _ f))
+    add-sized room f = rw (h .is, ne-eqb _ _ f)
 
-    module _ (sized : length b ≡ e .size) where
-      pub add-untitled : titleFits ti ≡ false → Adds e l b ti out (Refused 4) out
+    module _ (hb : Bytes l) (sized : length b ≡ e .size) where
+      -- the tests of a record of the right size, by what is known of the archive
+      pub add-tests : (room : ℕ) {fits : Bool} {number : ℕ} → fits ≡ titleFits ti → number ≡ word4 b 0
+          → addOf e l b ti room
+          ≡ need 4 fits
+          (need 5 (ltb last number)
+          (need 17 (leb (t + e .size + 1 + length ti + 2 * count + 8) room)
+          (need 18 (ltb count recordLimit)
+          (ok (grown e l count t b ti)))))
       unfolding addOf addTo need
-      add-untitled f = no 4 (rw (h .is, eq-eqb _ _ sized, f))
+      add-tests room ef en = rw (h .is, eq-eqb _ _ sized, ← h .last-is, more-length e l h b ti sized, ← counted e l h, ← grown-is e l h b ti hb, ef, en)
 
-      module _ (fits : titleFits ti ≡ true) where
-        pub add-low : word4 b 0 ≤ last → Adds e l b ti out (Refused 5) out
-        unfolding addOf addTo need
-        add-low f = no 5 (rw (h .is, eq-eqb _ _ sized, fits, ← h .last-is, le-ltb _ _ f))
-
-        module _ (above : last < word4 b 0) where
-          pub add-narrow : length out < t + e .size + 1 + length ti + 2 * count + 8 → Adds e l b ti out (Refused 17) out
-          unfolding addOf addTo need
-          add-narrow f = no 17 (rw (h .is, eq-eqb _ _ sized, fits, ← h .last-is, lt-ltb _ _ above, more-length e l h b ti sized, lt-leb _ _ f))
-
-          module _ (room : t + e .size + 1 + length ti + 2 * count + 8 ≤ length out) where
-            pub add-full : recordLimit ≤ count → Adds e l b ti out (Refused 18) out
-            unfolding addOf addTo need
-            add-full f = no 18 (rw (h .is, eq-eqb _ _ sized, fits, ← h .last-is, lt-ltb _ _ above, more-length e l h b ti sized, le-leb _ _ room, ← counted e l h, le-ltb _ _ f))
-
-            pub add-done : Bytes l → count < recordLimit → {r : ℕ} {out′ : List ℕ} → Wrote out 0 (grown e l count t b ti) out′ r → Adds e l b ti out (Value r) out′
-            unfolding addOf addTo need
-            add-done hb f {r} {out′} w =
-                let y : addOf e l b ti (length out) ≡ ok (encode e (h .fs ++ single b ti)) =
-                rw (h .is, eq-eqb _ _ sized, fits, ← h .last-is, lt-ltb _ _ above, more-length e l h b ti sized, le-leb _ _ room, ← counted e l h, lt-ltb _ _ f) in
-                let g : grown e l count t b ti ≡ encode e (h .fs ++ single b ti) = grown-is e l h b ti hb in
-                let v : Wrote out 0 (encode e (h .fs ++ single b ti)) out′ r = rw g at w in
-                let f : _ = wrote-fits v (omega (arith, more-length e l h b ti sized)) in
-                record { answer = rw y (ap (λ (z : ℕ). Value z) (f .1 ∙ zero-add (length (encode e (h .fs ++ single b ti))))); buffer = rw y (f .0 ∙ rw zero-add) }
+      pub add-done : (out : List ℕ) → t + e .size + 1 + length ti + 2 * count + 8 ≤ length out → addOf e l b ti (length out) ≡ ok (grown e l count t b ti)
+          → {r : ℕ} {out′ : List ℕ} → Wrote out 0 (grown e l count t b ti) out′ r → Adds e l b ti out (Value r) out′
+      add-done out room y w =
+          let long : length (grown e l count t b ti) ≡ t + e .size + 1 + length ti + 2 * count + 8 = rw (grown-is e l h b ti hb) (more-length e l h b ti sized) in
+          let f : _ = wrote-fits w (omega (arith, long)) in
+          record { answer = rw y (ap (λ (z : ℕ). Value z) (f .1 ∙ zero-add (length (grown e l count t b ti)))); buffer = rw y (f .0 ∙ rw zero-add) }

@@ -1,11 +1,10 @@
 -- What the call's answer says of the buffer: a length, that its first bytes read back and the rest stays; a refusal, that all stays.
 use Prim.Native.Nat.{ℕ}
-use native.Mathlib.Omega.{arith}
 use mathlib.Core.Path.{_≡_, refl, _∙_}
 use mathlib.Core.List.{List}
 use lib.ListN.{length, take, drop}
 use lib.Seq.{take-at, drop-at}
-use Rattle.refusal.specs.Refusal.{Or, refused, ok}
+use Rattle.refusal.specs.Refusal.{Or, refused, ok, false-true}
 use Rattle.archive_format.specs.declared.Edition.{Edition}
 use Rattle.archive_format.specs.declared.Answer.the-variants.{Value, Refused}
 use Rattle.archive_format.specs.Archive.{addOf, newLength, overwrite}
@@ -19,7 +18,7 @@ module _ (e : Edition) (l b t out : List ℕ) (n : ℕ) (out′ : List ℕ) wher
     where
       go : (x : Or (List ℕ)) → addOf e l b t (length out) ≡ x → Value n ≡ newLength x → out′ ≡ overwrite x out
           → (addOf e l b t (length out) ≡ ok (take n out′)) × (drop n out′ ≡ drop n out)
-      go (refused m) x r o = absurd (let z : _≡_ {A = ℕ} 0 1 = cc in omega arith)
+      go (refused m) x r o = false-true (cc)
       go (ok new) x r o =
           let same : length new ≡ n = cc in
           let taken : take n out′ ≡ new = rw o (take-at new (drop (length new) out) n same) in
@@ -35,4 +34,4 @@ module _ (e : Edition) (l b t out : List ℕ) (n : ℕ) (out′ : List ℕ) wher
       go : (x : Or (List ℕ)) → addOf e l b t (length out) ≡ x → Refused n ≡ newLength x → out′ ≡ overwrite x out
           → (addOf e l b t (length out) ≡ refused n) × (out′ ≡ out)
       go (refused m) x r o = let same : m ≡ n = cc in (x ∙ rw same, o)
-      go (ok new) x r o = absurd (let z : _≡_ {A = ℕ} 0 1 = cc in omega arith)
+      go (ok new) x r o = false-true (cc)

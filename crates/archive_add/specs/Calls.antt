@@ -7,7 +7,7 @@ use mathlib.Core.Path.{_≡_, refl, sym, ap, _∙_}
 use mathlib.Core.List.{List, [], _∷_, _++_, append-nil}
 use lib.ListN.{length, take}
 use lib.Seq.{append-snoc}
-use Rattle.refusal.specs.Refusal.{Or, refused, ok}
+use Rattle.refusal.specs.Refusal.{Or, refused, ok, ok-refused}
 use Rattle.archive_format.specs.declared.Edition.{Edition}
 use Rattle.archive_format.specs.declared.Answer.the-variants.{Value, Refused}
 use Rattle.archive_format.specs.Archive.{Filed, encode, decode, addOf, countOf, answerOf, overwrite}
@@ -34,7 +34,7 @@ module _ (e : Edition) (outs : ℕ → List ℕ) where
   grown-reads : (i : ℕ) (l : List ℕ) (fs : List Filed) (x : Or (List ℕ)) (gs : List Filed) (l′ : List ℕ)
       → Calls e outs i l fs x → decode e l ≡ ok gs → x ≡ ok l′ → decode e l′ ≡ ok (gs ++ fs)
   grown-reads i l fs x gs l′ (done {l = k}) r same = let z : k ≡ l′ = cc in rw (← z, append-nil gs) r
-  grown-reads i l fs x gs l′ (stopped m out′ a) r same = absurd (let z : _≡_ {A = ℕ} 0 1 = cc in omega arith)
+  grown-reads i l fs x gs l′ (stopped m out′ a) r same = ok-refused (sym same)
   grown-reads i l fs x gs l′ (then {i = j} {l = k} {f = f} {fs = rest} n out′ a on) r same =
       let w : Added e k (f .bytes) (f .title) (take n out′) = read-back e k (f .bytes) (f .title) (outs j) n out′ a in
       let z : w .fs ≡ gs = cc in
@@ -54,8 +54,7 @@ module _ (e : Edition) (outs : ℕ → List ℕ) where
         → Fit e (fs ++ gs) → length (encode e (fs ++ gs)) ≤ room → x ≡ ok (encode e (fs ++ gs))
     grown-is i l gs x fs (done {l = k}) same f h = rw (append-nil fs, same)
     grown-is i l gs x fs (stopped {i = j} {l = k} {f = g} {fs = rest} m out′ a) same f h =
-        let z : _≡_ {A = ℕ} 0 1 = cc (accepted j k fs g rest same f h, unwritten e k (g .bytes) (g .title) (outs j) m out′ a .0) in
-        absurd (omega arith)
+        ok-refused (sym (accepted j k fs g rest same f h) ∙ unwritten e k (g .bytes) (g .title) (outs j) m out′ a .0)
     grown-is i l gs x fs (then {i = j} {l = k} {f = g} {fs = rest} n out′ a on) same f h =
         let next : take n out′ ≡ encode e (fs ++ (g ∷ [])) = cc (accepted j k fs g rest same f h, written e k (g .bytes) (g .title) (outs j) n out′ a .0) in
         let snoc : (fs ++ (g ∷ [])) ++ rest ≡ fs ++ (g ∷ rest) = append-snoc fs g rest in

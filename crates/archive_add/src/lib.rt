@@ -9,6 +9,7 @@ use archive_format::FIRST_EDITION;
 use archive_format::RECORD_LIMIT;
 use archive_format::TITLE_LIMIT;
 use archive_open::Opened;
+use refusal::first_failed;
 
 // A title that is not too long, of bytes from 32 to 126.
 fn title_fits(title: &[u8]) -> bool
@@ -38,18 +39,13 @@ fn add_in(e: Edition, s: &[u8], segment: &[u8], title: &[u8], out: &mut [u8]) ->
             }
             let fits = title_fits(title);
             let number = octets::word4_at(segment, segment::NUMBER_AT);
-            if !fits {
-                return Answer::Refused(4);
-            }
-            if number <= last {
-                return Answer::Refused(5);
-            }
             let length = trailer + size + 1 + title.len() + 2 * count + 8;
-            if out.len() < length {
-                return Answer::Refused(17);
-            }
-            if RECORD_LIMIT <= count {
-                return Answer::Refused(18);
+            let failed = first_failed(0, fits, 4);
+            let failed = first_failed(failed, last < number, 5);
+            let failed = first_failed(failed, length <= out.len(), 17);
+            let failed = first_failed(failed, count < RECORD_LIMIT, 18);
+            if failed != 0 {
+                return Answer::Refused(failed);
             }
             let n = archive_write::grow(e, s, count, trailer, segment, title, out);
             return Answer::Value(n);

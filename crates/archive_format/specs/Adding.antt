@@ -10,7 +10,7 @@ use lib.Dec.{leb, ltb}
 use lib.ListN.{length, take, drop, length-append}
 use lib.Seq.{append-snoc}
 use borrow.Author.Tests.{leb-true, ltb-true, eqb-true, le-leb, lt-ltb, eq-eqb, ne-eqb}
-use Rattle.refusal.specs.Refusal.{Or, refused, ok, need, andThen, need-passed, need-rest, both}
+use Rattle.refusal.specs.Refusal.{Or, refused, ok, need, andThen, need-passed, need-rest, both, false-true}
 use Rattle.octets.specs.Octets.{word4}
 use Rattle.archive_format.specs.declared.Edition.{Edition}
 use Rattle.archive_format.specs.Archive.{recordLimit, titleLimit, Filed, recordNumber, body, encode, printables, titled, rising, lastNumber, filedAt, decode}
@@ -129,7 +129,7 @@ unfolding addOf
 added e l b t room new a = go (decode e l) refl a
   where
     go : (x : Or (List Filed)) → decode e l ≡ x → andThen x (λ fs. addTo e b t room fs) ≡ ok new → Added e l b t new
-    go (refused n) r a = absurd (let z : _≡_ {A = ℕ} 0 1 = cc in omega arith)
+    go (refused n) r a = false-true (cc)
     go (ok fs) r a =
         let w : Accepts e fs b t × (new ≡ encode e (fs ++ single b t)) = accepted e fs b t room new a in
         let f : Fit e fs = decoded-is-fit e l fs r in

@@ -7,7 +7,7 @@ use mathlib.Core.List.{List, [], _∷_, _++_}
 use lib.Dec.{eqb, ltb}
 use lib.ListN.{length, getD}
 use borrow.Author.Tests.{eqb-true, ne-eqb, ltb-true}
-use Rattle.refusal.specs.Refusal.{Or, refused, ok, andThen, both}
+use Rattle.refusal.specs.Refusal.{Or, refused, ok, andThen, both, false-true}
 use Rattle.octets.specs.Octets.{word2}
 use Rattle.archive_format.specs.declared.Edition.{Edition}
 use Rattle.archive_format.specs.declared.TitlePart.the-variants.{Part}
@@ -54,7 +54,7 @@ pub find-is : (e : Edition) (l : List ℕ) (fs : List Filed) (n p : ℕ) → dec
 find-is e l fs n p r f = go (searched e l fs n r)
   where
     go : Search (e .size) l (trailerAt l) (findOf e l n) (lookup fs n) → lookup fs n ≡ ok (filedAt (e .size) l p)
-    go (absent x y) = absurd (let z : _≡_ {A = ℕ} 0 1 = cc in omega arith)
+    go (absent x y) = false-true (cc)
     go (present o x y w) = let z : o ≡ p = cc in rw z at y
 
 pub absent-is : (e : Edition) (l : List ℕ) (fs : List Filed) (n m : ℕ) → decode e l ≡ ok fs → findOf e l n ≡ refused m → lookup fs n ≡ refused 6
@@ -62,14 +62,14 @@ absent-is e l fs n m r f = go (searched e l fs n r)
   where
     go : Search (e .size) l (trailerAt l) (findOf e l n) (lookup fs n) → lookup fs n ≡ refused 6
     go (absent x y) = y
-    go (present o x y w) = absurd (let z : _≡_ {A = ℕ} 0 1 = cc in omega arith)
+    go (present o x y w) = false-true (cc)
 
 pub find-absent : (e : Edition) (l : List ℕ) (fs : List Filed) (n m : ℕ) → decode e l ≡ ok fs → lookup fs n ≡ refused m → findOf e l n ≡ refused 6
 find-absent e l fs n m r g = go (searched e l fs n r)
   where
     go : Search (e .size) l (trailerAt l) (findOf e l n) (lookup fs n) → findOf e l n ≡ refused 6
     go (absent x y) = x
-    go (present o x y w) = absurd (let z : _≡_ {A = ℕ} 0 1 = cc in omega arith)
+    go (present o x y w) = false-true (cc)
 
 -- whole, with its title, before the archive ends
 pub find-within : (e : Edition) (l : List ℕ) (n p : ℕ) → findOf e l n ≡ ok p → nextAt (e .size) l p ≤ length l
@@ -77,11 +77,11 @@ unfolding findOf
 find-within e l n p found = go (decode e l) refl found
   where
     inside : (fs : List Filed) → Reads e l fs → Search (e .size) l (trailerAt l) (findOf e l n) (lookup fs n) → nextAt (e .size) l p ≤ length l
-    inside fs m (absent x y) = absurd (let z : _≡_ {A = ℕ} 0 1 = cc found in omega arith)
+    inside fs m (absent x y) = false-true (cc found)
     inside fs m (present o x y w) = let z : o ≡ p = cc found in rw (← z) (omega (arith, m .sized))
 
     go : (x : Or (List Filed)) → decode e l ≡ x → andThen x (λ fs. findIn (e .size) 0 fs n) ≡ ok p → nextAt (e .size) l p ≤ length l
-    go (refused m) r f = absurd (let z : _≡_ {A = ℕ} 0 1 = cc in omega arith)
+    go (refused m) r f = false-true (cc)
     go (ok fs) r f = inside fs (reads e l fs r) (searched e l fs n r)
 
 -- a title's part lies in the archive
@@ -90,7 +90,7 @@ unfolding titlePartOf
 part-within e l n place size = go (findOf e l n) refl
   where
     go : (x : Or ℕ) → findOf e l n ≡ x → titlePartAt (e .size) l x ≡ Part place size → place + size ≤ length l
-    go (refused m) f t = absurd (let z : _≡_ {A = ℕ} 0 1 = cc in omega arith)
+    go (refused m) f t = false-true (cc)
     go (ok p) f t =
         let at-place : p + e .size + 1 ≡ place = cc in
         let so-long : getD l (p + e .size) 0 ≡ size = cc in
@@ -104,7 +104,7 @@ title-is e l n p f = rw f
 -- a record found has the number looked for
 lookup-number : (fs : List Filed) (n : ℕ) (g : Filed) → lookup fs n ≡ ok g → recordNumber g ≡ n
 unfolding lookup
-lookup-number [] n g h = absurd (let z : _≡_ {A = ℕ} 0 1 = cc in omega arith)
+lookup-number [] n g h = false-true (cc)
 lookup-number (f ∷ fs) n g h = go (eqb (recordNumber f) n) refl h (lookup-number fs n g)
   where
     go : (b : Bool) → eqb (recordNumber f) n ≡ b → cond b (ok f) (lookup fs n) ≡ ok g → (lookup fs n ≡ ok g → recordNumber g ≡ n) → recordNumber g ≡ n
@@ -118,7 +118,7 @@ found-number e l fs n p r f = lookup-number fs n _ (find-is e l fs n p r f)
 
 pub lookup-more : (fs gs : List Filed) (n : ℕ) (g : Filed) → lookup fs n ≡ ok g → lookup (fs ++ gs) n ≡ ok g
 unfolding lookup
-lookup-more [] gs n g h = absurd (let z : _≡_ {A = ℕ} 0 1 = cc in omega arith)
+lookup-more [] gs n g h = false-true (cc)
 lookup-more (f ∷ fs) gs n g h = go (eqb (recordNumber f) n) h (lookup-more fs gs n g)
   where
     go : (b : Bool) → cond b (ok f) (lookup fs n) ≡ ok g → (lookup fs n ≡ ok g → lookup (fs ++ gs) n ≡ ok g) → cond b (ok f) (lookup (fs ++ gs) n) ≡ ok g
@@ -131,12 +131,12 @@ lookup-after [] gs n m h = refl
 lookup-after (f ∷ fs) gs n m h = go (eqb (recordNumber f) n) h (lookup-after fs gs n m)
   where
     go : (b : Bool) → cond b (ok f) (lookup fs n) ≡ refused m → (lookup fs n ≡ refused m → lookup (fs ++ gs) n ≡ lookup gs n) → cond b (ok f) (lookup (fs ++ gs) n) ≡ lookup gs n
-    go true h ih = absurd (let z : _≡_ {A = ℕ} 0 1 = cc in omega arith)
+    go true h ih = false-true (cc)
     go false h ih = ih h
 
 pub find-more : (size at : ℕ) (fs gs : List Filed) (n p : ℕ) → findIn size at fs n ≡ ok p → findIn size at (fs ++ gs) n ≡ ok p
 unfolding findIn
-find-more size at [] gs n p h = absurd (let z : _≡_ {A = ℕ} 0 1 = cc in omega arith)
+find-more size at [] gs n p h = false-true (cc)
 find-more size at (f ∷ fs) gs n p h = go (eqb (recordNumber f) n) h (find-more size (at + size + 1 + length (f .title)) fs gs n p)
   where
     go : (b : Bool) → cond b (ok at) (findIn size (at + size + 1 + length (f .title)) fs n) ≡ ok p
@@ -156,12 +156,12 @@ find-after size at (f ∷ fs) gs n m s h =
         → (findIn size (at + size + 1 + length (f .title)) fs n ≡ refused m → findIn size (at + size + 1 + length (f .title)) (fs ++ gs) n ≡ findIn size (at + size + 1 + length (f .title) + length (body fs)) gs n)
         → at + size + 1 + length (f .title) + length (body fs) ≡ at + length (f .bytes ++ (length (f .title) ∷ (f .title ++ body fs)))
         → cond b (ok at) (findIn size (at + size + 1 + length (f .title)) (fs ++ gs) n) ≡ findIn size (at + length (f .bytes ++ (length (f .title) ∷ (f .title ++ body fs)))) gs n
-    go true h ih z = absurd (let y : _≡_ {A = ℕ} 0 1 = cc in omega arith)
+    go true h ih z = false-true (cc)
     go false h ih z = ih h ∙ ap (λ (y : ℕ). findIn size y gs n) z
 
 pub place-more : (size at : ℕ) (fs gs : List Filed) (i p : ℕ) → placeIn size at fs i ≡ ok p → placeIn size at (fs ++ gs) i ≡ ok p
 unfolding placeIn
-place-more size at [] gs i p h = absurd (let z : _≡_ {A = ℕ} 0 1 = cc in omega arith)
+place-more size at [] gs i p h = false-true (cc)
 place-more size at (f ∷ fs) gs zero p h = h
 place-more size at (f ∷ fs) gs (suc i) p h = place-more size (at + size + 1 + length (f .title)) fs gs i p h
 

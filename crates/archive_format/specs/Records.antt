@@ -10,7 +10,7 @@ use lib.Dec.{ltb}
 use lib.ListN.{length, take, drop, length-append}
 use lib.Seq.{drop-at, append-snoc}
 use borrow.Author.Tests.{ltb-true, eq-eqb}
-use Rattle.refusal.specs.Refusal.{Or, refused, ok, andThen, both}
+use Rattle.refusal.specs.Refusal.{Or, refused, ok, andThen, both, false-true}
 use Rattle.octets.specs.Octets.{word4}
 use Rattle.segment.specs.Layout as layout
 use Rattle.archive_format.specs.declared.Edition.{Edition}
@@ -146,5 +146,5 @@ unfolding countOf
 records-are e l n = go (decode e l) refl
   where
     go : (x : Or (List Filed)) → decode e l ≡ x → answerOf (andThen x (λ fs. ok (length fs))) ≡ Value n → decode e l ≡ ok (recordsFrom e l n 0)
-    go (refused m) r a = absurd (let z : _≡_ {A = ℕ} 0 1 = cc in omega arith)
+    go (refused m) r a = false-true (cc)
     go (ok fs) r a = let z : length fs ≡ n = cc in r ∙ ap ok (sym (records-from e l [] fs r) ∙ rw z)

@@ -7,7 +7,7 @@ use mathlib.Core.Bool.{true}
 use mathlib.Core.List.{List, [], _∷_, _++_}
 use lib.ListN.{length, length-append, replicate}
 use borrow.Author.Tests.{lt-ltb}
-use Rattle.refusal.specs.Refusal.{ok}
+use Rattle.refusal.specs.Refusal.{ok, false-true}
 use Rattle.octets.specs.Octets.{word4, bytes2}
 use Rattle.segment.specs.Layout as layout
 use Rattle.archive_format.specs.declared.Edition.{Edition}
@@ -30,7 +30,7 @@ length-bound e fs f = omega (arith, length-encode e fs, body-bound (e .size) fs 
 
 place-bound : (size p : ℕ) (fs : List Filed) (i x : ℕ) → Shaped size fs → placeIn size p fs i ≡ ok x → x ≤ p + length (body fs)
 unfolding placeIn body
-place-bound size p [] i x s h = absurd (let z : _≡_ {A = ℕ} 0 1 = cc in omega arith)
+place-bound size p [] i x s h = false-true (cc)
 place-bound size p (f ∷ fs) zero x s h = let e : p ≡ x = cc in omega arith
 place-bound size p (f ∷ fs) (suc i) x s h =
     simp length-append (omega (arith, s .0, place-bound size (p + size + 1 + length (f .title)) fs i x (s .2) h))

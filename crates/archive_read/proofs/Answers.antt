@@ -4,7 +4,7 @@ use native.Mathlib.Omega.{arith}
 use mathlib.Core.Path.{_≡_, sym, _∙_}
 use mathlib.Core.List.{List, []}
 use lib.ListN.{length, take, drop, getD}
-use Rattle.refusal.specs.Refusal.{Or, refused, ok}
+use Rattle.refusal.specs.Refusal.{Or, refused, ok, false-true}
 use Rattle.octets.specs.Octets.{word2}
 use Rattle.archive_format.specs.declared.Edition.{Edition}
 use Rattle.archive_format.specs.declared.Answer.{Answer}
@@ -49,12 +49,12 @@ module _ (e : Edition) (l : List ℕ) where
 -- ---- a title's part, by what finding answered
 
 answer-ok : (x : Or ℕ) (p : ℕ) → answerOf x ≡ Value p → x ≡ ok p
-answer-ok (refused n) p a = absurd (let z : _≡_ {A = ℕ} 0 1 = cc in omega arith)
+answer-ok (refused n) p a = false-true (cc)
 answer-ok (ok m) p a = let z : m ≡ p = cc in rw z
 
 answer-refused : (x : Or ℕ) (p : ℕ) → answerOf x ≡ Refused p → x ≡ refused p
 answer-refused (refused n) p a = let z : n ≡ p = cc in rw z
-answer-refused (ok m) p a = absurd (let z : _≡_ {A = ℕ} 0 1 = cc in omega arith)
+answer-refused (ok m) p a = false-true (cc)
 
 module _ (e : Edition) (l : List ℕ) (n p : ℕ) where
   pub found-within : answerOf (findOf e l n) ≡ Value p → nextAt (e .size) l p ≤ length l
