@@ -1,7 +1,14 @@
 // Runs the discharge call on the vectors of docs/VECTORS.md and compares every number.
 ghost use Prim.Native.Nat.{_+_, _*_, _≤_};
 ghost use lib.ListN.{length};
+ghost use Rattle.discharge_vectors.specs.Room.{room};
 use discharge::Discharged;
+
+// The longest profile that a case lends.
+const ROOM: usize = 1000;
+
+// A lent profile holds the numbers from this on.
+const FROM: u32 = 3000000000;
 
 fn answer_differs(expected: &[u8], answer: Discharged) -> bool
     requires { ⌜ 16 ≤ length (now expected) ⌝ }
@@ -27,9 +34,9 @@ fn answer_differs(expected: &[u8], answer: Discharged) -> bool
 
 // One call, on a profile lent with a pattern: the answer, then every number of the profile.
 fn call_differs(record: &[u8], expected: &[u8], profile: &mut [u32]) -> bool
-    requires { ⌜ (16 + 4 * length (now profile) ≤ length (now expected)) × (length (now profile) ≤ 1000) ⌝ }
+    requires { ⌜ (16 + 4 * length (now profile) ≤ length (now expected)) × (length (now profile) ≤ room) ⌝ }
 {
-    vectors::fill_pattern(profile, 3000000000);
+    vectors::fill_pattern(profile, FROM);
     let answer = discharge::discharge(record, profile);
     answer_differs(expected, answer) | vectors::numbers_differ(expected, 16, &profile[..])
 }
@@ -37,8 +44,8 @@ fn call_differs(record: &[u8], expected: &[u8], profile: &mut [u32]) -> bool
 fn body_differs(record: &[u8], expected: &[u8], m: usize) -> bool
     requires { ⌜ 16 + 4 * m ≤ length (now expected) ⌝ }
 {
-    let mut profile = [0u32; 1000];
-    if 1000 < m {
+    let mut profile = [0u32; ROOM];
+    if ROOM < m {
         return true;
     }
     call_differs(record, expected, &mut profile[0..m])

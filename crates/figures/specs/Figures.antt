@@ -79,5 +79,9 @@ pub figures :
     ∷ (0 ∷ 0 ∷ 1 ∷ 0 ∷ 69 ∷ 0 ∷ 68 ∷ 82 ∷ [])
     ∷ (77 ∷ [])
     ∷ []
-unfolding computed divisorOf arrivalTimeOf stepOf stateAfter parts pairArrivals blocked blockedSteps body places encode printables titled rising lastNumber filedFrom runs decodeBody decode addTo addOf emptyArchive oneRecord tab turn greenStep greenSteps capacity received landing landed need word2 word4 greenOf greensOf entryOf volumesOf rowOf tableOf zeroSeeds seedsOf segmentOf cycleFits runningFits headwayFits volumesFit greensFit seedsAdd checkOf dischargeVolume carried greenArrivals servedOf served queueOf greenFlows profileOf entryProfile acceptWith written
+unfolding computed divisorOf arrivalTimeOf stepOf stateAfter parts pairArrivals blocked blockedSteps body places encode printables titled
+    rising lastNumber filedFrom runs decodeBody decode addTo addOf emptyArchive oneRecord tab turn greenStep greenSteps capacity received
+    landing landed need word2 word4 greenOf greensOf entryOf volumesOf rowOf tableOf zeroSeeds seedsOf segmentOf cycleFits runningFits
+    headwayFits volumesFit greensFit seedsAdd checkOf dischargeVolume carried greenArrivals servedOf served queueOf greenFlows profileOf
+    entryProfile acceptWith written
 figures = refl

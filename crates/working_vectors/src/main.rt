@@ -1,9 +1,20 @@
 // Runs the working on the vectors of docs/VECTORS.md and compares the answer and every number of the three profiles.
 ghost use Prim.Native.Nat.{_+_, _*_, _≤_};
 ghost use lib.ListN.{length};
+ghost use Rattle.working_vectors.specs.Room.{room};
 use balance_decision::Outcome;
 use exit_figures::ExitFigures;
 use working_outcome::Working;
+
+// The longest profile that a case lends.
+const ROOM: usize = 1200;
+
+// Each lent profile holds the numbers from its own on.
+const OUTPUT_FROM: u32 = 3000000000;
+
+const FIRST_FROM: u32 = 3100000000;
+
+const SECOND_FROM: u32 = 3200000000;
 
 // The expected numbers of a case, after its record and the profiles' lengths: number, last sum, platoon arrival time, rounds, pair flows,
 // three exits' figures, access total, blocked steps; then the three profiles.
@@ -64,13 +75,27 @@ fn profiles_differ(expected: &[u8], output: &[u32], first: &[u32], second: &[u32
         | profile_differs(after(rest, first.len()), second)
 }
 
+// The answer, and the three profiles after it.
+fn result_differs(
+    expected: &[u8],
+    answer: Working,
+    output: &[u32],
+    first: &[u32],
+    second: &[u32],
+) -> bool {
+    if expected.len() < 156 {
+        return true;
+    }
+    answer_differs(expected, answer) | profiles_differ(&expected[156..], output, first, second)
+}
+
 // The three profiles as they are lent.
 fn lend(output: &mut [u32], first: &mut [u32], second: &mut [u32])
-    requires { ⌜ (length (now output) ≤ 1200) × (length (now first) ≤ 1200) × (length (now second) ≤ 1200) ⌝ }
+    requires { ⌜ (length (now output) ≤ room) × (length (now first) ≤ room) × (length (now second) ≤ room) ⌝ }
 {
-    vectors::fill_pattern(output, 3000000000);
-    vectors::fill_pattern(first, 3100000000);
-    vectors::fill_pattern(second, 3200000000);
+    vectors::fill_pattern(output, OUTPUT_FROM);
+    vectors::fill_pattern(first, FIRST_FROM);
+    vectors::fill_pattern(second, SECOND_FROM);
 }
 
 // One call, on profiles lent with patterns.
@@ -81,22 +106,19 @@ fn call_differs(
     first: &mut [u32],
     second: &mut [u32],
 ) -> bool
-    requires { ⌜ 156 ≤ length (now expected) ⌝ }
-    requires { ⌜ (length (now output) ≤ 1200) × (length (now first) ≤ 1200) × (length (now second) ≤ 1200) ⌝ }
+    requires { ⌜ (length (now output) ≤ room) × (length (now first) ≤ room) × (length (now second) ≤ room) ⌝ }
 {
     lend(output, first, second);
     let answer = working::work(record, output, first, second);
-    answer_differs(expected, answer)
-        | profiles_differ(&expected[156..], &output[..], &first[..], &second[..])
+    result_differs(expected, answer, &output[..], &first[..], &second[..])
 }
 
 fn body_differs(record: &[u8], expected: &[u8], o: usize, f: usize, s: usize) -> bool
-    requires { ⌜ 156 ≤ length (now expected) ⌝ }
-    requires { ⌜ (o ≤ 1200) × (f ≤ 1200) × (s ≤ 1200) ⌝ }
+    requires { ⌜ (o ≤ room) × (f ≤ room) × (s ≤ room) ⌝ }
 {
-    let mut output = [0u32; 1200];
-    let mut first = [0u32; 1200];
-    let mut second = [0u32; 1200];
+    let mut output = [0u32; ROOM];
+    let mut first = [0u32; ROOM];
+    let mut second = [0u32; ROOM];
     call_differs(
         record,
         expected,
@@ -112,13 +134,13 @@ fn lengths_differ(record: &[u8], rest: &[u8]) -> bool
     let o = octets::word4_at(rest, 0) as usize;
     let f = octets::word4_at(rest, 4) as usize;
     let s = octets::word4_at(rest, 8) as usize;
-    if 1200 < o {
+    if ROOM < o {
         return true;
     }
-    if 1200 < f {
+    if ROOM < f {
         return true;
     }
-    if 1200 < s {
+    if ROOM < s {
         return true;
     }
     if rest.len() != 168 + 4 * (o + f + s) {
