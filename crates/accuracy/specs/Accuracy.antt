@@ -3,7 +3,8 @@ use Prim.Native.Nat.{ℕ, _+_, _-_, _*_, _≤_, _<_}
 use mathlib.Core.Path.{_≡_}
 use mathlib.Core.List.{List}
 use lib.ListN.{take, getD}
-use Rattle.lists.specs.Lists.{sum}
+use Rattle.lists.specs.Lists.{sum, numberAt}
+use Rattle.runs.specs.Runs.{runAt}
 use Rattle.signal.specs.Turn.{earlier}
 use Rattle.segment.specs.declared.Entry.{Entry}
 use Rattle.segment.specs.declared.Segment.{Segment}
@@ -31,7 +32,7 @@ exactAt s rows exit step =
 
 -- number `step` of an exit's run in the output that a call left
 unfoldable pub outputAt : Segment → Profiles → (exit step : ℕ) → ℕ
-outputAt s p exit step = getD (p .output) (exit * s .cycle + (step - 1)) 0
+outputAt s p exit step = numberAt (runAt (s .cycle) exit (p .output)) step
 
 -- the right entry as the work profiles hold it: its arrivals in the last cycle, and the sum of those of all cycles worked
 unfoldable pub lastCycleIn : Segment → Profiles → List ℕ

@@ -3,7 +3,8 @@ use Prim.Native.Nat.{ℕ, _+_, _*_}
 use mathlib.Core.Path.{_≡_}
 use mathlib.Core.List.{List, [], _∷_, _++_}
 use lib.Dec.{leb}
-use lib.ListN.{length, take, drop}
+use lib.ListN.{length, drop}
+use Rattle.runs.specs.Runs.{runAt}
 use Rattle.refusal.specs.Refusal.{Or, refused, ok, test}
 use Rattle.segment.specs.declared.Segment.{Segment}
 use Rattle.segment.specs.Segment.{segmentOf}
@@ -35,9 +36,9 @@ profileAfter (ok s) p = written s p
 
 -- the three entries of a segment, read from the front of a profile, by their discharge volumes
 pub record EntriesDischarge (s : Segment) (o₁ o₂ o₃ : ℕ) (p : List ℕ) : Type 0 where
-  pub left : EntryDischarge (s .cycle) (s .left) o₁ (take (s .cycle) p)
-  pub through : EntryDischarge (s .cycle) (s .through) o₂ (take (s .cycle) (drop (s .cycle) p))
-  pub right : EntryDischarge (s .cycle) (s .right) o₃ (take (s .cycle) (drop (2 * s .cycle) p))
+  pub left : EntryDischarge (s .cycle) (s .left) o₁ (runAt (s .cycle) 0 p)
+  pub through : EntryDischarge (s .cycle) (s .through) o₂ (runAt (s .cycle) 1 p)
+  pub right : EntryDischarge (s .cycle) (s .right) o₃ (runAt (s .cycle) 2 p)
 
 -- what the call answers and leaves in the profile, and what every accepted record's entries discharge there
 pub record Calls (l p : List ℕ) (r : Discharged) (p′ : List ℕ) : Type 0 where

@@ -1,12 +1,12 @@
 -- Of every accepted record each entry's run in the profile is its discharge, at the volume answered; no refusal has the number 0.
-use Prim.Native.Nat.{ℕ, _+_, _*_, _<_}
+use Prim.Native.Nat.{ℕ, _<_}
 use native.Mathlib.Omega.{arith}
 use mathlib.Core.Path.{_≡_, refl, sym, ap, _∙_}
 use mathlib.Core.List.{List, _++_}
 use lib.Dec.{ltb}
-use lib.ListN.{length, take, drop}
-use lib.Seq.{take-at, drop-at, drop-drop}
+use lib.ListN.{length}
 use borrow.Author.Tests.{ltb-true}
+use Rattle.runs.specs.Runs.{run-first, run-behind}
 use Rattle.refusal.specs.Refusal.{Or, refused, ok, false-true}
 use Rattle.segment.specs.declared.Segment.{Segment}
 use Rattle.segment.specs.Segment.{segmentOf}
@@ -28,14 +28,12 @@ runs-discharge s rest r =
     let x = entryProfile c (s .left) in
     let y = entryProfile c (s .through) in
     let z = entryProfile c (s .right) in
-    let two : 2 * c ≡ c + c = omega arith in
-    let past-x = drop-at x (y ++ (z ++ rest)) c (entry-length c (s .left)) in
-    let past-y : drop (2 * c) (x ++ (y ++ (z ++ rest))) ≡ z ++ rest =
-    rw two (sym (drop-drop c c (x ++ (y ++ (z ++ rest)))) ∙ ap (drop c) past-x ∙ drop-at y (z ++ rest) c (entry-length c (s .through))) in
+    let past-x = run-behind c x (y ++ (z ++ rest)) (entry-length c (s .left)) in
+    let past-y = run-behind c y (z ++ rest) (entry-length c (s .through)) in
     record {
-      left = rw (take-at x (y ++ (z ++ rest)) c (entry-length c (s .left))) (entry-discharge c (s .left) (r .left));
-      through = rw (past-x, take-at y (z ++ rest) c (entry-length c (s .through))) (entry-discharge c (s .through) (r .through));
-      right = rw (past-y, take-at z rest c (entry-length c (s .right))) (entry-discharge c (s .right) (r .right));
+      left = rw (run-first c x (y ++ (z ++ rest)) (entry-length c (s .left))) (entry-discharge c (s .left) (r .left));
+      through = rw (past-x 0, run-first c y (z ++ rest) (entry-length c (s .through))) (entry-discharge c (s .through) (r .through));
+      right = rw (past-x 1, past-y 0, run-first c z rest (entry-length c (s .right))) (entry-discharge c (s .right) (r .right));
     }
 
 -- at the volumes that the call answered

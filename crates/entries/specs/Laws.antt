@@ -26,7 +26,8 @@ entry-discharge c e r =
     record {
       green = profile-green c (e .green) (e .saturation) (e .arriving) (dischargeVolume c e) (r .green);
       red = profile-red c (e .green) (e .saturation) (e .arriving) (dischargeVolume c e) (r .green);
-      total = profile-sum c (e .green) (e .saturation) (e .arriving) (dischargeVolume c e) (omega (arith, r .green .start)) (r .arriving) (discharge-volume-served c e);
+      total = profile-sum c (e .green) (e .saturation) (e .arriving) (dischargeVolume c e) (omega (arith, r .green .start)) (r .arriving)
+          (discharge-volume-served c e);
     }
 
 pub entry-le : (c : ℕ) (e : Entry) → EntryRanges c e → (i : ℕ) → getD (entryProfile c e) i 0 ≤ flowUnits flowLimit

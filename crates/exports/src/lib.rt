@@ -5,7 +5,7 @@
 // in a caller's declaration is compared by runs alone (reference/linked).
 ghost use mathlib.Core.Path.{_≡_};
 ghost use lib.ListN.{length};
-ghost use Rattle.propagation.specs.Propagation.{profiles};
+ghost use Rattle.propagation.specs.Propagation.{lent};
 ghost use Rattle.archive_format.specs.Archive.{addOf, answerOf, countOf, findOf, placeOf, firstEdition, titlePartOf};
 ghost use Rattle.report.specs.Report.{reportOf};
 ghost use Rattle.exports.specs.Exports.{SegmentWorks, workAnswer, SegmentDischarges, volumesAnswer, valueAnswer, ArchiveWrites, titleAnswer};
@@ -123,7 +123,8 @@ pub extern "C" fn segment_work(
     first: &mut [u32],
     second: &mut [u32],
 ) -> WorkAnswer
-    ensures { λ r. ⌜ SegmentWorks (now (bytes .entry)) (profiles (now (output .entry)) (now (first .entry)) (now (second .entry))) r (profiles (now (output .exit)) (now (first .exit)) (now (second .exit))) ⌝ }
+    ensures { λ r. ⌜ SegmentWorks (now (bytes .entry)) (lent (output .entry) (first .entry) (second .entry))
+        r (lent (output .exit) (first .exit) (second .exit)) ⌝ }
 {
     work_answer(working::work(bytes, output, first, second))
 }
@@ -188,7 +189,8 @@ pub extern "C" fn archive_add(
     title: &[u8],
     buffer: &mut [u8],
 ) -> ValueAnswer
-    ensures { λ r. ⌜ ArchiveWrites (addOf firstEdition (now (archive .entry)) (now (bytes .entry)) (now (title .entry)) (length (now (buffer .entry)))) (now (buffer .entry)) r (now (buffer .exit)) ⌝ }
+    ensures { λ r. ⌜ ArchiveWrites (addOf firstEdition (now (archive .entry)) (now (bytes .entry)) (now (title .entry)) (length (now (buffer .entry))))
+        (now (buffer .entry)) r (now (buffer .exit)) ⌝ }
 {
     value_answer(archive_add::add(archive, bytes, title, buffer))
 }

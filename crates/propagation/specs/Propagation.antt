@@ -2,6 +2,7 @@
 use Prim.Native.Nat.{ℕ, _+_, _*_}
 use mathlib.Core.List.{List, [], _++_}
 use lib.ListN.{drop, getD}
+use denote.Ref.{RefT}
 use Rattle.signal.specs.Landing.{landing}
 use Rattle.segment.specs.declared.Entry.{Entry}
 use Rattle.segment.specs.declared.Segment.{Segment}
@@ -19,6 +20,10 @@ pub record Profiles : Type 0 where
 
 abbrev pub profiles : List ℕ → List ℕ → List ℕ → Profiles
 profiles o f s = record { output = o; first = f; second = s }
+
+-- as a contract reads them behind the references that a call is lent
+abbrev pub lent : (output first second : RefT (List ℕ)) → Profiles
+lent output first second = profiles (output .now) (first .now) (second .now)
 
 -- two cycles are worked, and the second is reported
 abbrev pub cycles : ℕ

@@ -1,6 +1,6 @@
 // Filling the lent profiles of an accepted segment, once its pair flows are decided.
 ghost use mathlib.Core.Path.{_≡_};
-ghost use Rattle.propagation.specs.Propagation.{filledOf, profiles};
+ghost use Rattle.propagation.specs.Propagation.{filledOf, lent};
 ghost use Rattle.propagation.specs.Steps.{FillEntryFits, FillFits, SpreadFits, entryStep, spreadStep};
 use movements::Counts;
 use segment::Entry;
@@ -19,8 +19,9 @@ fn spread(
     first: &mut [u32],
     second: &mut [u32],
 )
-    requires { ⌜ SpreadFits running units row (now discharge) (profiles (now output) (now first) (now second)) ⌝ }
-    ensures { λ _. ⌜ profiles (now (output .exit)) (now (first .exit)) (now (second .exit)) ≡ spreadStep running units row (now (discharge .entry)) (profiles (now (output .entry)) (now (first .entry)) (now (second .entry))) ⌝ }
+    requires { ⌜ SpreadFits running units row (now discharge) (lent output first second) ⌝ }
+    ensures { λ _. ⌜ lent (output .exit) (first .exit) (second .exit)
+        ≡ spreadStep running units row (now (discharge .entry)) (lent (output .entry) (first .entry) (second .entry)) ⌝ }
 {
     dispersion::alternate(running, discharge, first, second, CYCLES);
     let part = dispersion::last_cycle(&first[..], &second[..], CYCLES, discharge.len());
@@ -37,8 +38,9 @@ fn fill_entry(
     first: &mut [u32],
     second: &mut [u32],
 )
-    requires { ⌜ FillEntryFits (s .running) (s .cycle) e o row (profiles (now output) (now first) (now second)) ⌝ }
-    ensures { λ _. ⌜ profiles (now (output .exit)) (now (first .exit)) (now (second .exit)) ≡ entryStep (s .running) (s .cycle) e row (profiles (now (output .entry)) (now (first .entry)) (now (second .entry))) ⌝ }
+    requires { ⌜ FillEntryFits (s .running) (s .cycle) e o row (lent output first second) ⌝ }
+    ensures { λ _. ⌜ lent (output .exit) (first .exit) (second .exit)
+        ≡ entryStep (s .running) (s .cycle) e row (lent (output .entry) (first .entry) (second .entry)) ⌝ }
 {
     let c = s.cycle as usize;
     let mut discharge = [0u32; limits::CYCLE_ROOM];
@@ -64,8 +66,8 @@ pub fn fill(
     first: &mut [u32],
     second: &mut [u32],
 )
-    requires { ⌜ FillFits s o rows (profiles (now output) (now first) (now second)) ⌝ }
-    ensures { λ _. ⌜ profiles (now (output .exit)) (now (first .exit)) (now (second .exit)) ≡ filledOf s rows (profiles (now (output .entry)) (now (first .entry)) (now (second .entry))) ⌝ }
+    requires { ⌜ FillFits s o rows (lent output first second) ⌝ }
+    ensures { λ _. ⌜ lent (output .exit) (first .exit) (second .exit) ≡ filledOf s rows (lent (output .entry) (first .entry) (second .entry)) ⌝ }
 {
     arrivals::begin(s.cycle as usize, rows[3], output);
     fill_entry(s, s.left, o.left, rows[0], output, first, second);

@@ -3,7 +3,7 @@ ghost use mathlib.Core.Path.{_≡_};
 ghost use lib.ListN.{length};
 ghost use Rattle.ranges.specs.Ranges.{Ranges};
 ghost use Rattle.validation.specs.Validation.{checkedOf};
-ghost use Rattle.propagation.specs.Propagation.{profiles};
+ghost use Rattle.propagation.specs.Propagation.{lent};
 ghost use Rattle.propagation.specs.Steps.{Room};
 ghost use Rattle.working.specs.Working.{Works, acceptOf, byDecision, called, decisionFor};
 use balance_decision::Outcome;
@@ -31,8 +31,9 @@ fn accept(bytes: &[u8], output: usize, first: usize, second: usize) -> Checked
 
 // The volumes are decided before anything is written.
 fn work_accepted(s: Segment, output: &mut [u32], first: &mut [u32], second: &mut [u32]) -> Working
-    requires { ⌜ Ranges s × Room (s .cycle) (profiles (now output) (now first) (now second)) ⌝ }
-    ensures { λ r. ⌜ called r (profiles (now (output .exit)) (now (first .exit)) (now (second .exit))) ≡ byDecision s (decisionFor s) (profiles (now (output .entry)) (now (first .entry)) (now (second .entry))) ⌝ }
+    requires { ⌜ Ranges s × Room (s .cycle) (lent output first second) ⌝ }
+    ensures { λ r. ⌜ called r (lent (output .exit) (first .exit) (second .exit))
+        ≡ byDecision s (decisionFor s) (lent (output .entry) (first .entry) (second .entry)) ⌝ }
 {
     let o = metering::discharge_volumes(s);
     let decision = balance_decision::decide(o, s.exits, s.seeds);
@@ -57,7 +58,7 @@ fn work_accepted(s: Segment, output: &mut [u32], first: &mut [u32], second: &mut
 // Works a segment record: four runs of C numbers to the output profile, exits in order; the work profiles are left with cycles one
 // and two of the right entry. Where it refuses, nothing is written.
 pub fn work(bytes: &[u8], output: &mut [u32], first: &mut [u32], second: &mut [u32]) -> Working
-    ensures { λ r. ⌜ Works (now (bytes .entry)) (profiles (now (output .entry)) (now (first .entry)) (now (second .entry))) r (profiles (now (output .exit)) (now (first .exit)) (now (second .exit))) ⌝ }
+    ensures { λ r. ⌜ Works (now (bytes .entry)) (lent (output .entry) (first .entry) (second .entry)) r (lent (output .exit) (first .exit) (second .exit)) ⌝ }
 {
     let accepted = accept(bytes, output.len(), first.len(), second.len());
     match accepted {

@@ -1,14 +1,11 @@
 -- The figures of a filled output, run by run.
-use Prim.Native.Nat.{ℕ, _-_, _*_, _≤_, _<_}
+use Prim.Native.Nat.{ℕ, _+_, _-_, _*_, _≤_, _<_}
 use native.Mathlib.Omega.{arith}
 use mathlib.Core.Path.{_≡_}
 use mathlib.Core.List.{List}
 use lib.Ieee.{Float}
 use lib.ListN.{length, take, drop}
-use Rattle.limits.specs.Limits.{stepBound}
-use Rattle.lists.specs.Lists.{sum, tab-length}
-use Rattle.signal.specs.declared.Green.{Green}
-use Rattle.signal.specs.Greens.{GreenFits}
+use Rattle.lists.specs.Lists.{sum}
 use Rattle.segment.specs.declared.Segment.{Segment}
 use Rattle.dispersion.specs.Dispersion.{arrivalTimeOf}
 use Rattle.arrivals.specs.Laws.{run-of, runs-length}
@@ -30,23 +27,20 @@ module _ {s : Segment} {rows : List (List ℕ)} {output : List ℕ} (f : Filled 
   unfolding runOf
   run-is j a b h ea eb = rw (eb, ea, f .is) (run-of (s .cycle) (flowAt s rows) (f .rest) j h)
 
-  run-long : (j : ℕ) → length (runOf s rows j) ≡ s .cycle
-  unfolding runOf
-  run-long j = tab-length (flowAt s rows j) 1 (s .cycle)
-
-  -- what a run is asked for its figures
-  pub short : {run : List ℕ} (j : ℕ) → run ≡ runOf s rows j → length run < stepBound
-  short j e = rw e (omega (arith, run-long j, f .ranges .cycle))
-
-  pub asks : {run : List ℕ} (j : ℕ) → run ≡ runOf s rows j → {green : Green} → GreenFits (s .cycle) green → (length run < stepBound) × GreenFits (length run) green
-  asks j e w = (short j e, rw (e, run-long j) w)
-
--- the answer from its fields
-pub worked-is : (s : Segment) (x : Float) (n : ℕ) (p : PairFlows) {a : ℕ} {l t r : ExitFigures} {d b : ℕ} {r0 r1 r2 r3 : List ℕ} →
-    r0 ≡ runOf s (p .rows) 0 → r1 ≡ runOf s (p .rows) 1 → r2 ≡ runOf s (p .rows) 2 → r3 ≡ runOf s (p .rows) 3 →
-    a ≡ arrivalTimeOf (s .running) → l ≡ figuresOf (s .downstream .left) r0 → t ≡ figuresOf (s .downstream .through) r1 →
-    r ≡ figuresOf (s .downstream .right) r2 → d ≡ sum r3 → b ≡ blockedSteps (s .headway) r1 →
+-- the answer from its fields, each run as it is lent
+pub worked-is : {s : Segment} {p : PairFlows} {output : List ℕ} → Filled s (p .rows) output → (x : Float) (n : ℕ) {a : ℕ} {l t r : ExitFigures} {d b : ℕ} →
+    let c = s .cycle in
+    let through = take (c + c - c) (drop c output) in
+    a ≡ arrivalTimeOf (s .running) → l ≡ figuresOf (s .downstream .left) (take (c - 0) output) → t ≡ figuresOf (s .downstream .through) through →
+    r ≡ figuresOf (s .downstream .right) (take (c + c + c - (c + c)) (drop (c + c) output)) →
+    d ≡ sum (take (c + c + c + c - (c + c + c)) (drop (c + c + c) output)) → b ≡ blockedSteps (s .headway) through →
     _≡_ {A = Working} (record { outcome = Worked x; arrival = a; rounds = n; pairs = p; left = l; through = t; right = r; access = d; blocked = b })
     (workedOf s x n p)
 unfolding workedOf
-worked-is s x n p e0 e1 e2 e3 ea el et er ed eb = rw (ea, el, et, er, ed, eb, e0, e1, e2, e3)
+worked-is {s} f x n ea el et er ed eb =
+    let c = s .cycle in
+    let run0 = run-is f 0 0 c (omega arith) (omega arith) (omega arith) in
+    let run1 = run-is f 1 c (c + c) (omega arith) (omega arith) (omega arith) in
+    let run2 = run-is f 2 (c + c) (c + c + c) (omega arith) (omega arith) (omega arith) in
+    let run3 = run-is f 3 (c + c + c) (c + c + c + c) (omega arith) (omega arith) (omega arith) in
+    rw (ea, el, et, er, ed, eb, run0, run1, run2, run3)

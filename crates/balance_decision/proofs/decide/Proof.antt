@@ -30,7 +30,8 @@ settled-to-requires c κs = search needs
 returns-3 : tie.Need-returns-3
 returns-3 c =
     let at-if2 = c .before .before in
-    c .settled-to .ensures ∙ ap (settledTo _) (c .before .balanced .ensures) ∙ balances (tested (at-if2 .before .before)) (at-if2 .before .if1 .left) (at-if2 .if2 .left)
+    c .settled-to .ensures ∙ ap (settledTo _) (c .before .balanced .ensures)
+    ∙ balances (tested (at-if2 .before .before)) (at-if2 .before .if1 .left) (at-if2 .if2 .left)
 
 pub decide-spec : {M : Type 1} → statement M
 decide-spec =

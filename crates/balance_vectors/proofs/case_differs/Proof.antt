@@ -1,4 +1,4 @@
--- What the comparison asks is what the four tests before it left.
+-- Each discharge within the limit that `decide` asks, or the case differs.
 use borrow.Author.Needs.{needs}
 use Rattle.balance_vectors.proofs.case_differs.Statement.{statement}
 use Rattle.balance_vectors.proofs.case_differs.Tie as tie

@@ -1,3 +1,4 @@
+-- The call's answer in numbers.
 use mathlib.Core.Path.{ap, _∙_}
 use Rattle.exports.specs.Exports.{valueAnswer}
 use borrow.Author.Needs.{needs}

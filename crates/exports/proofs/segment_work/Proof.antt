@@ -1,3 +1,4 @@
+-- The working's contract, in numbers.
 use Rattle.exports.specs.Laws.{segment-works}
 use borrow.Author.Needs.{needs}
 use Rattle.exports.proofs.segment_work.Statement.{statement}
@@ -19,7 +20,9 @@ same-length-3 : tie.Need-same-length-3
 same-length-3 c = search needs
 
 returns : tie.Need-returns
-returns c = segment-works _ _ _ _ _ (c .before .before .before .before .before .before .before .work .ensures) (c .work-answer .ensures)
+returns c =
+    let at-first = c .before .before .before .before in
+    segment-works _ _ _ _ _ (at-first .before .before .before .work .ensures) (c .work-answer .ensures)
 
 pub segment-work-spec : {M : Type 1} → statement M
 segment-work-spec =

@@ -48,8 +48,8 @@ after-left : (c : tie.After-fill-entry) → let a = start-left c in let s = a .a
 after-left c =
     let h = start-left c .pre in
     let k = c .fill-entry .kept .1 .1 .1 .1 in
-    then-entry (h .ranges) (after-begin (begin-of (c .before .before .before .before))) _ (h .ranges .left) (h .shares .four 0 (omega arith)) (h .shares .left)
-    (c .fill-entry .ensures) (k .0) (k .1 .0) (k .1 .1 .0)
+    then-entry (h .ranges) (after-begin (begin-of (c .before .before .before .before))) _ (h .ranges .left) (h .shares .four 0 (omega arith))
+    (h .shares .left) (c .fill-entry .ensures) (k .0) (k .1 .0) (k .1 .1 .0)
 
 abbrev start-through : tie.After-fill-entry2 → tie.Start
 start-through c = start-left (left-of (c .before .before .before .before))
@@ -60,8 +60,8 @@ after-through : (c : tie.After-fill-entry2) → let a = start-through c in let s
 after-through c =
     let h = start-through c .pre in
     let k = c .fill-entry2 .kept .1 .1 .1 .1 in
-    then-entry (h .ranges) (after-left (left-of (c .before .before .before .before))) _ (h .ranges .through) (h .shares .four 1 (omega arith)) (h .shares .through)
-    (c .fill-entry2 .ensures) (k .0) (k .1 .0) (k .1 .1 .0)
+    then-entry (h .ranges) (after-left (left-of (c .before .before .before .before))) _ (h .ranges .through) (h .shares .four 1 (omega arith))
+    (h .shares .through) (c .fill-entry2 .ensures) (k .0) (k .1 .0) (k .1 .1 .0)
 
 -- ---- the needs
 

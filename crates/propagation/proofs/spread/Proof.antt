@@ -1,7 +1,21 @@
+-- Dispersed, its last cycle handed back, then landed: the three profiles are those of the step.
 use Rattle.propagation.proofs.Spreading.{spread-adds, spread-done}
 use borrow.Author.Needs.{needs}
 use Rattle.propagation.proofs.spread.Statement.{statement}
 use Rattle.propagation.proofs.spread.Tie as tie
+
+-- ---- from each call back to the one before
+
+abbrev start : tie.After-alternate → tie.Start
+start c = let known = c .before .before .before in known .before .before .before .before
+
+abbrev alternate-of : tie.After-last-cycle → tie.After-alternate
+alternate-of c = let known = c .before .before .before in known .before .before .before .before
+
+abbrev last-of : tie.After-add-entry-arg → tie.After-last-cycle
+last-of c = c .before .before
+
+-- ---- the needs
 
 alternate-requires : tie.Need-alternate-requires
 alternate-requires c κs = search needs
@@ -14,11 +28,9 @@ arrival-time-requires c κs = search needs
 
 add-entry-requires : tie.Need-add-entry-requires
 add-entry-requires c κs =
-    let at-arrival-time = c .before in
-    let at-last-cycle = at-arrival-time .before in
-    let at-alternate = at-last-cycle .before .before .before .before .before .before .before in
-    let start = at-alternate .before .before .before .before .before .before .before in
-    spread-adds _ _ _ _ (at-alternate .alternate .ensures) (start .pre) (at-last-cycle .last-cycle .ensures) (at-arrival-time .arrival-time .ensures)
+    let l = last-of c in
+    let a = alternate-of l in
+    spread-adds _ _ _ _ (a .alternate .ensures) (start a .pre) (l .last-cycle .ensures) (c .before .arrival-time .ensures)
 
 same-length : tie.Need-same-length
 same-length c = search needs
@@ -31,11 +43,10 @@ same-length-3 c = search needs
 
 returns : tie.Need-returns
 returns c =
-    let at-add-entry = c .before .before in
-    let at-arrival-time = at-add-entry .before .before in
-    let at-last-cycle = at-arrival-time .before in
-    let at-alternate = at-last-cycle .before .before .before .before .before .before .before in
-    spread-done _ _ _ _ (at-alternate .alternate .ensures) _ _ _ (at-last-cycle .last-cycle .ensures) (at-arrival-time .arrival-time .ensures) (at-add-entry .add-entry .ensures)
+    let added = c .before .before in
+    let l = last-of (added .before) in
+    spread-done _ _ _ _ (alternate-of l .alternate .ensures) _ _ _ (l .last-cycle .ensures) (added .before .before .arrival-time .ensures)
+    (added .add-entry .ensures)
 
 pub spread-spec : {M : Type 1} → statement M
 spread-spec =

@@ -1,8 +1,12 @@
+-- A record refused, or accepted and worked: either way the call's answer, its profiles and demand 3.
 use mathlib.Core.Path.{sym, _∙_}
 use Rattle.working.proofs.Deciding.{record-passed, record-worked, record-refused}
 use borrow.Author.Needs.{needs}
 use Rattle.working.proofs.work.Statement.{statement}
 use Rattle.working.proofs.work.Tie as tie
+
+abbrev valid-of : tie.After-work-accepted-arg → tie.After-accepted2
+valid-of c = c .before .before
 
 accept-requires : tie.Need-accept-requires
 accept-requires c κs = search needs
@@ -17,10 +21,14 @@ enum-known-accepted-2 : tie.Need-enum-known-accepted-2
 enum-known-accepted-2 c = search needs
 
 work-accepted-requires : tie.Need-work-accepted-requires
-work-accepted-requires c κs = record-passed _ _ _ (sym (c .before .before .before .before .before .before .accept .ensures) ∙ c .before .before .before .before .accepted2 .given .1)
+work-accepted-requires c κs =
+    let at-valid = valid-of (c .before .before) in
+    record-passed _ _ _ (sym (at-valid .before .before .accept .ensures) ∙ at-valid .accepted2 .given .1)
 
 returns : tie.Need-returns
-returns c = record-refused _ _ _ (sym (c .before .before .before .before .accept .ensures) ∙ c .before .before .accepted .given .1) _ (c .refused .ensures)
+returns c =
+    let at-refused = c .before .before in
+    record-refused _ _ _ (sym (at-refused .before .before .accept .ensures) ∙ at-refused .accepted .given .1) _ (c .refused .ensures)
 
 same-length : tie.Need-same-length
 same-length c = search needs
@@ -33,10 +41,10 @@ same-length-3 c = search needs
 
 returns-2 : tie.Need-returns-2
 returns-2 c =
-    let at-work-accepted = c .before .before .before .before .before .before in
-    let at-accepted2 = at-work-accepted .before .before .before .before .before in
-    let at-accept = at-accepted2 .before .before in
-    record-worked _ _ _ (sym (at-accept .accept .ensures) ∙ at-accepted2 .accepted2 .given .1) _ _ (at-work-accepted .work-accepted .ensures)
+    let at-first = c .before .before .before in
+    let w = at-first .before .before .before in
+    let at-valid = valid-of (w .before .before .before) in
+    record-worked _ _ _ (sym (at-valid .before .before .accept .ensures) ∙ at-valid .accepted2 .given .1) _ _ (w .work-accepted .ensures)
 
 pub work-spec : {M : Type 1} → statement M
 work-spec =

@@ -63,7 +63,8 @@ worked-requires c κs =
     let f = fill-of c in
     let r = rows-of f in
     let d = decide-of r in
-    filled _ (profiles _ _ _) (decided d) _ (r .before .before .outcome .given .1) (r .rows-of .ensures) (start (d .before) .pre .0) (profiles _ _ _) (f .fill .ensures)
+    filled _ (profiles _ _ _) (decided d) _ (r .before .before .outcome .given .1) (r .rows-of .ensures) (start (d .before) .pre .0)
+    (profiles _ _ _) (f .fill .ensures)
 
 returns : tie.Need-returns
 returns c = refused-is _ _ (decided (c .before .before .before)) _ (c .before .enum-told .given .1) (c .refused .ensures)
@@ -84,7 +85,8 @@ returns-3 : tie.Need-returns-3
 returns-3 c =
     let f = fill-of (c .before) in
     let r = rows-of f in
-    worked-is _ _ (decided (decide-of r)) _ (r .before .before .outcome .given .1) (r .rows-of .ensures) (profiles _ _ _) (f .fill .ensures) (c .worked .ensures)
+    worked-is _ _ (decided (decide-of r)) _ (r .before .before .outcome .given .1) (r .rows-of .ensures)
+    (profiles _ _ _) (f .fill .ensures) (c .worked .ensures)
 
 pub work-accepted-spec : {M : Type 1} → statement M
 work-accepted-spec =

@@ -1,3 +1,4 @@
+-- The outcome alone: every figure is 0.
 use borrow.Author.Needs.{needs}
 use Rattle.working_outcome.proofs.refused.Statement.{statement}
 use Rattle.working_outcome.proofs.refused.Tie as tie

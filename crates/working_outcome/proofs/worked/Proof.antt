@@ -1,9 +1,33 @@
-use Prim.Native.Nat.{_+_}
+-- Each exit's run is lent from the filled output; its figures are those of the definition.
+use Prim.Native.Nat.{_*_, _≤_}
 use native.Mathlib.Omega.{arith}
-use Rattle.working_outcome.proofs.Figures.{output-long, run-is, worked-is}
+use lib.ListN.{length}
+use Rattle.working_outcome.proofs.Figures.{output-long, worked-is}
 use borrow.Author.Needs.{needs}
 use Rattle.working_outcome.proofs.worked.Statement.{statement}
 use Rattle.working_outcome.proofs.worked.Tie as tie
+
+-- ---- from each call back to the one before
+
+abbrev start : tie.After-arrival-time → tie.Start
+start c = c .before .before .before
+
+abbrev arrival-of : tie.After-figures → tie.After-arrival-time
+arrival-of c = c .before .before
+
+abbrev left-of : tie.After-figures2 → tie.After-figures
+left-of c = c .before .before
+
+abbrev through-of : tie.After-figures3 → tie.After-figures2
+through-of c = c .before .before
+
+abbrev right-of : tie.After-total → tie.After-figures3
+right-of c = c .before .before
+
+four-runs : (c : tie.After-arrival-time) → 4 * start c .args .s .cycle ≤ length (start c .args .output .now)
+four-runs c = output-long (start c .pre)
+
+-- ---- the needs
 
 cast-one : tie.Need-cast-one
 cast-one c = search needs
@@ -27,7 +51,7 @@ part-figures-start : tie.Need-part-figures-start
 part-figures-start c = search needs
 
 part-figures-end : tie.Need-part-figures-end
-part-figures-end c = omega (arith, output-long (c .before .before .before .pre))
+part-figures-end c = omega (arith, four-runs c)
 
 figures-requires : tie.Need-figures-requires
 figures-requires c κs = search needs
@@ -42,7 +66,7 @@ part-figures-start-2 : tie.Need-part-figures-start-2
 part-figures-start-2 c = search needs
 
 part-figures-end-2 : tie.Need-part-figures-end-2
-part-figures-end-2 c = omega (arith, output-long (c .before .before .before .before .before .pre))
+part-figures-end-2 c = omega (arith, four-runs (arrival-of c))
 
 figures-requires-2 : tie.Need-figures-requires-2
 figures-requires-2 c κs = search needs
@@ -57,7 +81,7 @@ part-figures-start-3 : tie.Need-part-figures-start-3
 part-figures-start-3 c = search needs
 
 part-figures-end-3 : tie.Need-part-figures-end-3
-part-figures-end-3 c = omega (arith, output-long (c .before .before .before .before .before .before .before .pre))
+part-figures-end-3 c = omega (arith, four-runs (arrival-of (left-of c)))
 
 figures-requires-3 : tie.Need-figures-requires-3
 figures-requires-3 c κs = search needs
@@ -72,7 +96,7 @@ part-total-start : tie.Need-part-total-start
 part-total-start c = search needs
 
 part-total-end : tie.Need-part-total-end
-part-total-end c = omega (arith, output-long (c .before .before .before .before .before .before .before .before .before .pre))
+part-total-end c = omega (arith, four-runs (arrival-of (left-of (through-of c))))
 
 total-requires : tie.Need-total-requires
 total-requires c κs = search needs
@@ -87,22 +111,20 @@ part-blocked-steps-start : tie.Need-part-blocked-steps-start
 part-blocked-steps-start c = search needs
 
 part-blocked-steps-end : tie.Need-part-blocked-steps-end
-part-blocked-steps-end c = omega (arith, output-long (c .before .before .before .before .before .before .before .before .before .before .before .pre))
+part-blocked-steps-end c = omega (arith, four-runs (arrival-of (left-of (through-of (right-of c)))))
 
 blocked-steps-requires : tie.Need-blocked-steps-requires
 blocked-steps-requires c κs = search needs
 
 returns : tie.Need-returns
 returns c =
-    let at-total = c .before .before in
-    let at-figures3 = at-total .before .before in
-    let at-figures2 = at-figures3 .before .before in
-    let at-figures = at-figures2 .before .before in
-    let at-arrival-time = at-figures .before .before in
-    let start = at-arrival-time .before .before .before in
-    let f = start .pre in
-    let n = start .args .s .cycle in
-    worked-is _ _ _ _ (run-is f 0 0 n (omega arith) (omega arith) (omega arith)) (run-is f 1 n (n + n) (omega arith) (omega arith) (omega arith)) (run-is f 2 (n + n) (n + n + n) (omega arith) (omega arith) (omega arith)) (run-is f 3 (n + n + n) (n + n + n + n) (omega arith) (omega arith) (omega arith)) (at-arrival-time .arrival-time .ensures) (at-figures .figures .ensures) (at-figures2 .figures2 .ensures) (at-figures3 .figures3 .ensures) (at-total .total .ensures) (c .blocked-steps .ensures)
+    let access = c .before .before in
+    let right = right-of access in
+    let through = through-of right in
+    let left = left-of through in
+    let arrival = arrival-of left in
+    worked-is (start arrival .pre) _ _ (arrival .arrival-time .ensures) (left .figures .ensures) (through .figures2 .ensures) (right .figures3 .ensures)
+    (access .total .ensures) (c .blocked-steps .ensures)
 
 pub worked-spec : {M : Type 1} → statement M
 worked-spec =
