@@ -8,7 +8,7 @@ use lib.Dec.{leb, eqb}
 use lib.Ieee.{Float}
 use lib.ListN.{length, drop}
 use borrow.Author.Tests.{leb-true, not-true}
-use Rattle.refusal.specs.Refusal.{Or, refused, ok, both}
+use Rattle.refusal.specs.Refusal.{Or, refused, ok, both, false-true}
 use Rattle.segment.specs.declared.Segment.{Segment}
 use Rattle.segment.specs.Segment.{segmentOf}
 use Rattle.validation.specs.declared.Checked.the-variants as checked
@@ -106,5 +106,5 @@ module _ (l : List ℕ) (p : Profiles) where
   record-refused n e w ew =
       record {
         is = rw (checked-refused accepts n e, own-case n (checked-refused accepts n e)) (ap (λ (v : Working). called v p) ew);
-        accurate = λ x o. absurd (let z : _≡_ {A = ℕ} 0 1 = cc (ap (λ (v : Working). v .outcome) ew) in omega arith);
+        accurate = λ x o. false-true (cc (ap (λ (v : Working). v .outcome) ew));
       }

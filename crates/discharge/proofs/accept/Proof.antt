@@ -6,21 +6,6 @@ use borrow.Author.Needs.{needs}
 use Rattle.discharge.proofs.accept.Statement.{statement}
 use Rattle.discharge.proofs.accept.Tie as tie
 
-check-requires : tie.Need-check-requires
-check-requires c κs = search needs
-
-enum-known-checked : tie.Need-enum-known-checked
-enum-known-checked c = search needs
-
-enum-known-checked-2 : tie.Need-enum-known-checked-2
-enum-known-checked-2 c = search needs
-
-cast-if1 : tie.Need-cast-if1
-cast-if1 c = search needs
-
-mul-if1 : tie.Need-mul-if1
-mul-if1 c = search needs
-
 returns : tie.Need-returns
 returns c =
     let at-valid = c .before .before .before in
@@ -29,21 +14,8 @@ returns c =
     let short : start .args .room < 3 * at-valid .checked2 .given .0 .0 .cycle = omega (arith, c .if1 .taken) in
     search ladder depth 30
 
-returns-2 : tie.Need-returns-2
-returns-2 c = search ladder depth 30
-
-returns-3 : tie.Need-returns-3
-returns-3 c = search ladder depth 30
-
 pub accept-spec : {M : Type 1} → statement M
 accept-spec =
     tie.close
-    (tie.spec
-    check-requires
-    enum-known-checked
-    enum-known-checked-2
-    cast-if1
-    mul-if1
-    returns
-    returns-2
-    returns-3)
+    (tie.spec (λ c κs. search needs) (λ c. search needs) (λ c. search needs) (λ c. search needs) (λ c. search needs) returns
+    (λ c. search ladder depth 30) (λ c. search ladder depth 30))

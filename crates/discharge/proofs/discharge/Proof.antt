@@ -5,15 +5,6 @@ use borrow.Author.Needs.{needs}
 use Rattle.discharge.proofs.discharge.Statement.{statement}
 use Rattle.discharge.proofs.discharge.Tie as tie
 
-accept-requires : tie.Need-accept-requires
-accept-requires c κs = search needs
-
-enum-known-accepted : tie.Need-enum-known-accepted
-enum-known-accepted c = search needs
-
-enum-known-accepted-2 : tie.Need-enum-known-accepted-2
-enum-known-accepted-2 c = search needs
-
 write-requires : tie.Need-write-requires
 write-requires c κs =
     let at-valid = c .before .before in
@@ -27,9 +18,6 @@ returns c =
     let at-accept = at-refused .before .before in
     refuses _ _ _ (sym (at-accept .accept .ensures) ∙ at-refused .accepted .given .1)
 
-same-length : tie.Need-same-length
-same-length c = search needs
-
 returns-2 : tie.Need-returns-2
 returns-2 c =
     let at-write = c .before .before in
@@ -40,11 +28,4 @@ returns-2 c =
 pub discharge-spec : {M : Type 1} → statement M
 discharge-spec =
     tie.close
-    (tie.spec
-    accept-requires
-    enum-known-accepted
-    enum-known-accepted-2
-    write-requires
-    returns
-    same-length
-    returns-2)
+    (tie.spec (λ c κs. search needs) (λ c. search needs) (λ c. search needs) write-requires returns (λ c. search needs) returns-2)

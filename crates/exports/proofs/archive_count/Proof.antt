@@ -5,14 +5,8 @@ use borrow.Author.Needs.{needs}
 use Rattle.exports.proofs.archive_count.Statement.{statement}
 use Rattle.exports.proofs.archive_count.Tie as tie
 
-count-requires : tie.Need-count-requires
-count-requires c κs = search needs
-
-value-answer-requires : tie.Need-value-answer-requires
-value-answer-requires c κs = search needs
-
 returns : tie.Need-returns
 returns c = c .value-answer .ensures ∙ ap valueAnswer (c .before .count .ensures)
 
 pub archive-count-spec : {M : Type 1} → statement M
-archive-count-spec = tie.close (tie.spec count-requires value-answer-requires returns)
+archive-count-spec = tie.close (tie.spec (λ c κs. search needs) (λ c κs. search needs) returns)

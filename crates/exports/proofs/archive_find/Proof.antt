@@ -5,14 +5,8 @@ use borrow.Author.Needs.{needs}
 use Rattle.exports.proofs.archive_find.Statement.{statement}
 use Rattle.exports.proofs.archive_find.Tie as tie
 
-find-requires : tie.Need-find-requires
-find-requires c κs = search needs
-
-value-answer-requires : tie.Need-value-answer-requires
-value-answer-requires c κs = search needs
-
 returns : tie.Need-returns
 returns c = c .value-answer .ensures ∙ ap valueAnswer (c .before .find .ensures)
 
 pub archive-find-spec : {M : Type 1} → statement M
-archive-find-spec = tie.close (tie.spec find-requires value-answer-requires returns)
+archive-find-spec = tie.close (tie.spec (λ c κs. search needs) (λ c κs. search needs) returns)

@@ -5,14 +5,8 @@ use borrow.Author.Needs.{needs}
 use Rattle.exports.proofs.archive_place.Statement.{statement}
 use Rattle.exports.proofs.archive_place.Tie as tie
 
-place-requires : tie.Need-place-requires
-place-requires c κs = search needs
-
-value-answer-requires : tie.Need-value-answer-requires
-value-answer-requires c κs = search needs
-
 returns : tie.Need-returns
 returns c = c .value-answer .ensures ∙ ap valueAnswer (c .before .place .ensures)
 
 pub archive-place-spec : {M : Type 1} → statement M
-archive-place-spec = tie.close (tie.spec place-requires value-answer-requires returns)
+archive-place-spec = tie.close (tie.spec (λ c κs. search needs) (λ c κs. search needs) returns)

@@ -5,15 +5,6 @@ use borrow.Author.Needs.{needs}
 use Rattle.exports.proofs.archive_title.Statement.{statement}
 use Rattle.exports.proofs.archive_title.Tie as tie
 
-title-part-requires : tie.Need-title-part-requires
-title-part-requires c κs = search needs
-
-enum-known-part : tie.Need-enum-known-part
-enum-known-part c = search needs
-
-enum-known-part-2 : tie.Need-enum-known-part-2
-enum-known-part-2 c = search needs
-
 returns : tie.Need-returns
 returns c =
     let at-part = c .before in
@@ -25,4 +16,6 @@ returns-2 c =
     sym (ap titleAnswer (sym (at-part .before .before .title-part .ensures) ∙ at-part .part2 .given .1))
 
 pub archive-title-spec : {M : Type 1} → statement M
-archive-title-spec = tie.close (tie.spec title-part-requires enum-known-part enum-known-part-2 returns returns-2)
+archive-title-spec =
+    tie.close
+    (tie.spec (λ c κs. search needs) (λ c. search needs) (λ c. search needs) returns returns-2)

@@ -5,12 +5,6 @@ use borrow.Author.Needs.{needs}
 use Rattle.exports.proofs.value_answer.Statement.{statement}
 use Rattle.exports.proofs.value_answer.Tie as tie
 
-enum-known-a : tie.Need-enum-known-a
-enum-known-a c = search needs
-
-enum-known-a-2 : tie.Need-enum-known-a-2
-enum-known-a-2 c = search needs
-
 returns : tie.Need-returns
 returns c = sym (ap valueAnswer (c .before .a .given .1))
 
@@ -18,4 +12,4 @@ returns-2 : tie.Need-returns-2
 returns-2 c = sym (ap valueAnswer (c .before .a2 .given .1))
 
 pub value-answer-spec : {M : Type 1} → statement M
-value-answer-spec = tie.close (tie.spec enum-known-a enum-known-a-2 returns returns-2)
+value-answer-spec = tie.close (tie.spec (λ c. search needs) (λ c. search needs) returns returns-2)
