@@ -13,7 +13,8 @@ use Rattle.refusal.specs.Refusal.{refused, ok, need, both}
 use Rattle.octets.specs.Octets.{word4, bytes2}
 use Rattle.archive_format.specs.declared.Edition.{Edition}
 use Rattle.archive_format.specs.declared.Answer.the-variants.{Value, Refused}
-use Rattle.archive_format.specs.Archive.{recordLimit, titleLimit, Filed, Sized, body, places, encode, titleFits, filedFrom, decode, single, addTo, addOf}
+use Rattle.archive_format.specs.Archive.{recordLimit, titleLimit, Filed, Sized, body, placeAfter, places, encode, titleFits, filedFrom, decode}
+use Rattle.archive_format.specs.Archive.{single, addTo, addOf}
 use Rattle.archive_format.specs.Words.{Bytes}
 use Rattle.archive_format.specs.Decoded.{Shaped, Fit, decoded-is-fit, body-laid, places-laid}
 use Rattle.archive_format.specs.Encoded.{length-places, length-encode}
@@ -32,13 +33,18 @@ body-more : (fs : List Filed) (b t : List ℕ) → body (fs ++ single b t) ≡ b
 unfolding body
 body-more fs b t = body-append fs (single b t) ∙ rw (append-nil t)
 
-places-more : (size p : ℕ) (fs : List Filed) (b t : List ℕ) → Shaped size fs → places size p (fs ++ single b t) ≡ places size p fs ++ bytes2 (p + length (body fs))
+places-more : (size p : ℕ) (fs : List Filed) (b t : List ℕ) → Shaped size fs
+    → places size p (fs ++ single b t) ≡ places size p fs ++ bytes2 (p + length (body fs))
 unfolding places body
 places-more size p [] b t s = let e : p ≡ p + 0 = omega arith in ap (λ (z : ℕ). bytes2 z) e
 places-more size p (f ∷ fs) b t s =
     ap (λ (z : List ℕ). bytes2 p ++ z)
-    (places-more size (p + size + 1 + length (f .title)) fs b t (s .2)
-    ∙ ap (λ (z : ℕ). places size (p + size + 1 + length (f .title)) fs ++ bytes2 z) (body-next size p f fs (s .0)))
+    (places-more size (placeAfter size p f) fs b t (s .2)
+    ∙ ap (λ (z : ℕ). places size (placeAfter size p f) fs ++ bytes2 z) (body-next size p f fs (s .0)))
+
+-- the length of an archive with one record more
+abbrev pub moreLength : ℕ → ℕ → ℕ → ℕ → ℕ
+moreLength size count t title = t + size + 1 + title + 2 * count + 8
 
 module _ (e : Edition) (l : List ℕ) {count t last : ℕ} (h : Held e l count t last) where
   counted : count ≡ length (h .fs)
@@ -75,7 +81,7 @@ module _ (e : Edition) (l : List ℕ) {count t last : ℕ} (h : Held e l count t
     more-count : length (h .fs ++ single b ti) ≡ count + 1
     more-count = simp length-append (omega (arith, counted))
 
-    more-length : length b ≡ e .size → length (encode e (h .fs ++ single b ti)) ≡ t + e .size + 1 + length ti + 2 * count + 8
+    more-length : length b ≡ e .size → length (encode e (h .fs ++ single b ti)) ≡ moreLength (e .size) count t (length ti)
     more-length sized = omega (arith, length-encode e (h .fs ++ single b ti), body-length, record-length b ti, more-count, sized)
 
     -- what is written is the encoding
@@ -89,7 +95,8 @@ module _ (e : Edition) (l : List ℕ) {count t last : ℕ} (h : Held e l count t
         let pl : drop t l ≡ places (e .size) 0 (h .fs) ++ drop (t + 2 * count) l = rw held at (places-laid (e .size) count l t 0 t hb w w2 (held-run e l h)) in
         let bt : take t l ≡ body (h .fs) = ap (λ (z : List ℕ). take t z) bl ∙ take-at (body (h .fs)) (drop t l) t (sym reached) in
         let lp : length (places (e .size) 0 (h .fs)) ≡ 2 * count = length-places (e .size) 0 (h .fs) ∙ ap (λ (z : ℕ). 2 * z) (sym counted) in
-        let pt : take (2 * count) (drop t l) ≡ places (e .size) 0 (h .fs) = ap (λ (z : List ℕ). take (2 * count) z) pl ∙ take-at (places (e .size) 0 (h .fs)) (drop (t + 2 * count) l) (2 * count) lp in
+        let pt : take (2 * count) (drop t l) ≡ places (e .size) 0 (h .fs) =
+        ap (λ (z : List ℕ). take (2 * count) z) pl ∙ take-at (places (e .size) 0 (h .fs)) (drop (t + 2 * count) l) (2 * count) lp in
         let z : 0 + length (body (h .fs)) ≡ t = omega (arith, reached) in
         rw (bt, pt, more-count, body-length, body-more (h .fs) b ti, places-more (e .size) 0 (h .fs) b ti (fit .shaped), z) (simp append-assoc)
 
@@ -117,15 +124,15 @@ module _ (e : Edition) (l b ti : List ℕ) where
           → addOf e l b ti room
           ≡ need 4 fits
           (need 5 (ltb last number)
-          (need 17 (leb (t + e .size + 1 + length ti + 2 * count + 8) room)
+          (need 17 (leb (moreLength (e .size) count t (length ti)) room)
           (need 18 (ltb count recordLimit)
           (ok (grown e l count t b ti)))))
       unfolding addOf addTo need
       add-tests room ef en = rw (h .is, eq-eqb _ _ sized, ← h .last-is, more-length e l h b ti sized, ← counted e l h, ← grown-is e l h b ti hb, ef, en)
 
-      pub add-done : (out : List ℕ) → t + e .size + 1 + length ti + 2 * count + 8 ≤ length out → addOf e l b ti (length out) ≡ ok (grown e l count t b ti)
+      pub add-done : (out : List ℕ) → moreLength (e .size) count t (length ti) ≤ length out → addOf e l b ti (length out) ≡ ok (grown e l count t b ti)
           → {r : ℕ} {out′ : List ℕ} → Wrote out 0 (grown e l count t b ti) out′ r → Adds e l b ti out (Value r) out′
       add-done out room y w =
-          let long : length (grown e l count t b ti) ≡ t + e .size + 1 + length ti + 2 * count + 8 = rw (grown-is e l h b ti hb) (more-length e l h b ti sized) in
+          let long : length (grown e l count t b ti) ≡ moreLength (e .size) count t (length ti) = rw (grown-is e l h b ti hb) (more-length e l h b ti sized) in
           let f : _ = wrote-fits w (omega (arith, long)) in
           record { answer = rw y (ap (λ (z : ℕ). Value z) (f .1 ∙ zero-add (length (grown e l count t b ti)))); buffer = rw y (f .0 ∙ rw zero-add) }

@@ -13,8 +13,8 @@ use borrow.Author.Tests.{leb-true, ltb-true, eqb-true, le-leb, lt-ltb, eq-eqb, n
 use Rattle.refusal.specs.Refusal.{Or, refused, ok, need, andThen, need-passed, need-rest, both, false-true}
 use Rattle.octets.specs.Octets.{word4}
 use Rattle.archive_format.specs.declared.Edition.{Edition}
-use Rattle.archive_format.specs.Archive.{recordLimit, titleLimit, Filed, recordNumber, body, encode, printables, titled, rising, lastNumber, filedAt, decode}
-use Rattle.archive_format.specs.Archive.{countOf, placeOf, findOf, titleOf, single, addTo, addOf}
+use Rattle.archive_format.specs.Archive.{recordLimit, titleLimit, Filed, recordNumber, body, encode, printables, titled, rising, lastNumber}
+use Rattle.archive_format.specs.Archive.{filedAt, decode, countOf, placeOf, findOf, titleOf, single, addTo, addOf}
 use Rattle.archive_format.specs.Decoded.{Shaped, Fit, decoded-is-fit}
 use Rattle.archive_format.specs.Encoded.{encoding-reads}
 use Rattle.archive_format.specs.Joined.{titled-append, rising-append, shaped-append, shaped-parts, length-more, fit-first, fit-titles, fit-rises}
@@ -50,10 +50,15 @@ accepted e fs b t room new a6 =
     let a5 : _ = need-rest _ _ _ _ a4 in
     let a17 : _ = need-rest _ _ _ _ a5 in
     let a18 : _ = need-rest _ _ _ _ a17 in
-    let title : (leb (length t) titleLimit ≡ true) × (printables t ≡ true) = both _ _ (need-passed _ _ _ _ a4) in (
-      record { sized = eqb-true _ _ (need-passed _ _ _ _ a6); short = leb-true _ _ (title .0); clean = title .1; above = ltb-true _ _ (need-passed _ _ _ _ a5); free = ltb-true _ _ (need-passed _ _ _ _ a18) },
-      cc (need-rest _ _ _ _ a18),
-    )
+    let title : (leb (length t) titleLimit ≡ true) × (printables t ≡ true) = both _ _ (need-passed _ _ _ _ a4) in
+    let accepts : Accepts e fs b t = record {
+      sized = eqb-true _ _ (need-passed _ _ _ _ a6);
+      short = leb-true _ _ (title .0);
+      clean = title .1;
+      above = ltb-true _ _ (need-passed _ _ _ _ a5);
+      free = ltb-true _ _ (need-passed _ _ _ _ a18);
+    } in
+    (accepts, cc (need-rest _ _ _ _ a18))
 
 -- ---- written reads back
 

@@ -42,10 +42,14 @@ unfoldable pub body : List Filed → List ℕ
 body [] = []
 body (f ∷ fs) = f .bytes ++ (length (f .title) ∷ (f .title ++ body fs))
 
+-- the place after a record that stands at p, and its title
+abbrev pub placeAfter : ℕ → ℕ → Filed → ℕ
+placeAfter size p f = p + size + 1 + length (f .title)
+
 -- each record's place, where the first stands at p
 unfoldable pub places : ℕ → ℕ → List Filed → List ℕ
 places size p [] = []
-places size p (f ∷ fs) = bytes2 p ++ places size (p + size + 1 + length (f .title)) fs
+places size p (f ∷ fs) = bytes2 p ++ places size (placeAfter size p f) fs
 
 -- the trailer: the places, the count, the trailer's own place, the mark
 unfoldable pub encode : Edition → List Filed → List ℕ
@@ -131,7 +135,7 @@ countOf e l = andThen (decode e l) (λ fs. ok (length fs))
 unfoldable pub placeIn : ℕ → ℕ → List Filed → ℕ → Or ℕ
 placeIn size p [] i = refused 6
 placeIn size p (f ∷ fs) zero = ok p
-placeIn size p (f ∷ fs) (suc i) = placeIn size (p + size + 1 + length (f .title)) fs i
+placeIn size p (f ∷ fs) (suc i) = placeIn size (placeAfter size p f) fs i
 
 unfoldable pub placeOf : Edition → List ℕ → ℕ → Or ℕ
 placeOf e l i = andThen (decode e l) (λ fs. placeIn (e .size) 0 fs i)
@@ -139,7 +143,7 @@ placeOf e l i = andThen (decode e l) (λ fs. placeIn (e .size) 0 fs i)
 -- the place of the record with a number
 unfoldable pub findIn : ℕ → ℕ → List Filed → ℕ → Or ℕ
 findIn size p [] n = refused 6
-findIn size p (f ∷ fs) n = cond (eqb (recordNumber f) n) (ok p) (findIn size (p + size + 1 + length (f .title)) fs n)
+findIn size p (f ∷ fs) n = cond (eqb (recordNumber f) n) (ok p) (findIn size (placeAfter size p f) fs n)
 
 unfoldable pub findOf : Edition → List ℕ → ℕ → Or ℕ
 findOf e l n = andThen (decode e l) (λ fs. findIn (e .size) 0 fs n)

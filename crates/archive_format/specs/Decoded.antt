@@ -10,7 +10,8 @@ use borrow.Author.Tests.{eqb-true}
 use Rattle.refusal.specs.Refusal.{ok}
 use Rattle.octets.specs.Octets.{word2, bytes2}
 use Rattle.archive_format.specs.declared.Edition.{Edition}
-use Rattle.archive_format.specs.Archive.{recordLimit, titleLimit, Filed, body, places, encode, titled, rising, nextAt, filedFrom, runs, countAt, trailerAt, decode}
+use Rattle.archive_format.specs.Archive.{recordLimit, titleLimit, Filed, body, places, encode, titled, rising}
+use Rattle.archive_format.specs.Archive.{nextAt, filedFrom, runs, countAt, trailerAt, decode}
 use Rattle.archive_format.specs.Reading.{title-length, bytes-length, record-split, Ran, ran, Reads, reads}
 use Rattle.archive_format.specs.Words.{Bytes, word-split}
 
@@ -78,8 +79,8 @@ decoded-is-encoding e l fs hb r =
     drop-cons l (length l - 2) 0 (omega (arith, m .six))
     ∙ rw (last, drop-cons l (length l - 1) 0 (omega (arith, m .six)), end, drop-length l, m .mark, m .mark′) in
     body-laid (e .size) (countAt l) l (trailerAt l) 0 (trailerAt l) w (m .run)
-    ∙ rw (places-laid (e .size) (countAt l) l (trailerAt l) 0 (trailerAt l) hb w w2 (m .run), six, word-split l (length l - 6) hb six-in, four, word-split l (length l - 4) hb four-in, pair, tail, m .held)
-    (rw (m .count, m .trailer))
+    ∙ rw (places-laid (e .size) (countAt l) l (trailerAt l) 0 (trailerAt l) hb w w2 (m .run), six, word-split l (length l - 6) hb six-in)
+    (rw (four, word-split l (length l - 4) hb four-in, pair, tail, m .held) (rw (m .count, m .trailer)))
 
 pub decoded-is-fit : (e : Edition) (l : List ℕ) (fs : List Filed) → decode e l ≡ ok fs → Fit e fs
 decoded-is-fit e l fs r =

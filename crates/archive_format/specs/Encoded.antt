@@ -11,7 +11,7 @@ use borrow.Author.Tests.{le-leb, eq-eqb}
 use Rattle.refusal.specs.Refusal.{ok, need}
 use Rattle.octets.specs.Octets.{word2, bytes2}
 use Rattle.archive_format.specs.declared.Edition.{Edition}
-use Rattle.archive_format.specs.Archive.{titleLimit, Filed, body, places, encode, titled, rising}
+use Rattle.archive_format.specs.Archive.{titleLimit, Filed, body, places, encode, titled, rising, placeAfter}
 use Rattle.archive_format.specs.Archive.{nextAt, filedAt, filedFrom, runs, decodeBody, countAt, trailerAt, decode}
 use Rattle.archive_format.specs.Words.{word-of}
 use Rattle.archive_format.specs.Decoded.{Shaped, Fit}
@@ -24,11 +24,13 @@ module _ (size : ℕ) (f : Filed) (l : List ℕ) (at : ℕ) (r : List ℕ) (hs :
   laid-title : drop (at + size + 1) l ≡ f .title ++ r
   laid-title =
       sym (drop-drop 1 (at + size) l)
-      ∙ ap (λ (z : List ℕ). drop 1 z) (sym (drop-drop size at l) ∙ ap (λ (z : List ℕ). drop size z) h ∙ drop-at (f .bytes) (length (f .title) ∷ (f .title ++ r)) size hs)
+      ∙ ap (λ (z : List ℕ). drop 1 z)
+      (sym (drop-drop size at l) ∙ ap (λ (z : List ℕ). drop size z) h ∙ drop-at (f .bytes) (length (f .title) ∷ (f .title ++ r)) size hs)
 
   laid-next : drop (nextAt size l at) l ≡ r
   laid-next =
-      rw laid-length (sym (drop-drop (length (f .title)) (at + size + 1) l) ∙ ap (λ (z : List ℕ). drop (length (f .title)) z) laid-title ∙ drop-at (f .title) r (length (f .title)) refl)
+      let n : ℕ = length (f .title) in
+      rw laid-length (sym (drop-drop n (at + size + 1) l) ∙ ap (λ (z : List ℕ). drop n z) laid-title ∙ drop-at (f .title) r n refl)
 
   pub laid-record : filedAt size l at ≡ f
   laid-record =
@@ -50,7 +52,7 @@ encoded-runs size (f ∷ fs) l t at q x y s hb hp ht =
     let n : getD l (at + size) 0 ≡ length (f .title) = laid-length size f l at (body fs ++ x) (s .0) h in
     let len : at + (length (f .bytes) + suc (length (f .title) + length (body fs))) ≡ t = simp length-append at ht in
     let next : nextAt size l at + length (body fs) ≡ t = omega (arith, s .0) in
-    let p : word2 l q ≡ at = word-of l q at (places size (at + size + 1 + length (f .title)) fs ++ y) hp in
+    let p : word2 l q ≡ at = word-of l q at (places size (placeAfter size at f) fs ++ y) hp in
     let q2 : drop (q + 2) l ≡ places size (nextAt size l at) fs ++ y =
     sym (drop-drop 2 q l) ∙ ap (λ (z : List ℕ). drop 2 z) hp ∙ ap (λ (z : ℕ). places size (at + size + 1 + z) fs ++ y) (sym n) in
     let ih : Runs size fs l t (nextAt size l at) (q + 2) =
@@ -65,7 +67,7 @@ encoded-runs size (f ∷ fs) l t at q x y s hb hp ht =
 pub length-places : (size p : ℕ) (fs : List Filed) → length (places size p fs) ≡ 2 * length fs
 unfolding places
 length-places size p [] = refl
-length-places size p (f ∷ fs) = omega (arith, length-places size (p + size + 1 + length (f .title)) fs)
+length-places size p (f ∷ fs) = omega (arith, length-places size (placeAfter size p f) fs)
 
 pub length-encode : (e : Edition) (fs : List Filed) → length (encode e fs) ≡ length (body fs) + 2 * length fs + 6
 unfolding encode
@@ -95,17 +97,22 @@ encoding-reads e fs fit =
     let n1 : length l - 1 ≡ t + 2 * k + 4 + 1 = omega arith in
     let tail : List ℕ = ending e fs in
     let at-t : drop t l ≡ places (e .size) 0 fs ++ tail = dropped-body e fs in
-    let at-6 : drop (t + 2 * k) l ≡ tail = sym (drop-drop (2 * k) t l) ∙ ap (λ (z : List ℕ). drop (2 * k) z) at-t ∙ drop-at (places (e .size) 0 fs) tail (2 * k) (length-places (e .size) 0 fs) in
-    let at-4 : drop (t + 2 * k + 2) l ≡ bytes2 t ++ (e .first ∷ e .second ∷ []) = sym (drop-drop 2 (t + 2 * k) l) ∙ ap (λ (z : List ℕ). drop 2 z) at-6 in
-    let at-2 : drop (t + 2 * k + 4) l ≡ e .first ∷ e .second ∷ [] = sym (drop-drop 4 (t + 2 * k) l) ∙ ap (λ (z : List ℕ). drop 4 z) at-6 in
-    let count : countAt l ≡ k = rw n6 (word-of l (t + 2 * k) k (bytes2 t ++ (e .first ∷ e .second ∷ [])) at-6) in
-    let trailer : trailerAt l ≡ t = rw n4 (word-of l (t + 2 * k + 2) t (e .first ∷ e .second ∷ []) at-4) in
-    let first : getD l (length l - 2) 0 ≡ e .first = rw n2 (ap (λ (z : ℕ). getD l z 0) (sym (add-zero (t + 2 * k + 4))) ∙ sym (getD-drop (t + 2 * k + 4) l 0 0) ∙ ap (λ (z : List ℕ). getD z 0 0) at-2) in
+    let mark : List ℕ = e .first ∷ e .second ∷ [] in
+    let at-6 : drop (t + 2 * k) l ≡ tail =
+    sym (drop-drop (2 * k) t l) ∙ ap (λ (z : List ℕ). drop (2 * k) z) at-t ∙ drop-at (places (e .size) 0 fs) tail (2 * k) (length-places (e .size) 0 fs) in
+    let at-4 : drop (t + 2 * k + 2) l ≡ bytes2 t ++ mark = sym (drop-drop 2 (t + 2 * k) l) ∙ ap (λ (z : List ℕ). drop 2 z) at-6 in
+    let at-2 : drop (t + 2 * k + 4) l ≡ mark = sym (drop-drop 4 (t + 2 * k) l) ∙ ap (λ (z : List ℕ). drop 4 z) at-6 in
+    let count : countAt l ≡ k = rw n6 (word-of l (t + 2 * k) k (bytes2 t ++ mark) at-6) in
+    let trailer : trailerAt l ≡ t = rw n4 (word-of l (t + 2 * k + 2) t mark at-4) in
+    let first : getD l (length l - 2) 0 ≡ e .first =
+    rw (n2, ← add-zero (t + 2 * k + 4)) (sym (getD-drop (t + 2 * k + 4) l 0 0) ∙ ap (λ (z : List ℕ). getD z 0 0) at-2) in
     let second : getD l (length l - 1) 0 ≡ e .second = rw n1 (sym (getD-drop (t + 2 * k + 4) l 1 0) ∙ ap (λ (z : List ℕ). getD z 1 0) at-2) in
-    let ran : Runs (e .size) fs l t 0 t = encoded-runs (e .size) fs l t 0 t (places (e .size) 0 fs ++ tail) tail (fit .shaped) (encoded e fs) at-t (omega arith) in
+    let ran : Runs (e .size) fs l t 0 t =
+    encoded-runs (e .size) fs l t 0 t (places (e .size) 0 fs ++ tail) tail (fit .shaped) (encoded e fs) at-t (omega arith) in
     let six : 6 ≤ length l = omega arith in
     let sized : t + 2 * k + 6 ≡ length l = sym n in
-    rw (le-leb _ _ six, eq-eqb _ _ first, eq-eqb _ _ second, count, trailer, le-leb _ _ (fit .many), eq-eqb _ _ sized, ran .run, ran .held, fit .titles, fit .risen)
+    rw (le-leb _ _ six, eq-eqb _ _ first, eq-eqb _ _ second, count, trailer, le-leb _ _ (fit .many), eq-eqb _ _ sized)
+    (rw (ran .run, ran .held, fit .titles, fit .risen))
 
 pub empty-reads : (e : Edition) → decode e (encode e []) ≡ ok []
 unfolding titled rising

@@ -11,7 +11,8 @@ use Rattle.refusal.specs.Refusal.{Or, refused, ok, andThen, both, false-true}
 use Rattle.octets.specs.Octets.{word2}
 use Rattle.archive_format.specs.declared.Edition.{Edition}
 use Rattle.archive_format.specs.declared.TitlePart.the-variants.{Part}
-use Rattle.archive_format.specs.Archive.{Filed, recordNumber, body, rising, lastNumber, nextAt, filedAt, filedFrom, runs, countAt, trailerAt, decode}
+use Rattle.archive_format.specs.Archive.{Filed, recordNumber, body, rising, lastNumber, nextAt}
+use Rattle.archive_format.specs.Archive.{filedAt, filedFrom, runs, countAt, trailerAt, decode, placeAfter}
 use Rattle.archive_format.specs.Archive.{placeIn, findIn, findOf, titlePartAt, titlePartOf, titleOf}
 use Rattle.archive_format.specs.Reading.{title-length, Ran, ran, Reads, reads}
 use Rattle.archive_format.specs.Decoded.{Shaped}
@@ -37,8 +38,8 @@ search-from size (suc k) l t at q n h r =
     let w : nextAt size l at ≤ length l = omega arith in
     rw (title-length size l at w) (go (eqb (recordNumber (filedAt size l at)) n) (m .within) (search-from size k l t (nextAt size l at) (q + 2) n h (m .on)))
   where
-    go : (b : Bool) → nextAt size l at ≤ t → Search size l t (findIn size (nextAt size l at) (filedFrom size k l (nextAt size l at)) n) (lookup (filedFrom size k l (nextAt size l at)) n)
-        → Search size l t (cond b (ok at) (findIn size (nextAt size l at) (filedFrom size k l (nextAt size l at)) n)) (cond b (ok (filedAt size l at)) (lookup (filedFrom size k l (nextAt size l at)) n))
+    go : (b : Bool) {x : Or ℕ} {y : Or Filed} → nextAt size l at ≤ t → Search size l t x y
+        → Search size l t (cond b (ok at) x) (cond b (ok (filedAt size l at)) y)
     go true within ih = present at refl refl within
     go false within ih = ih
 
@@ -130,32 +131,35 @@ unfolding lookup
 lookup-after [] gs n m h = refl
 lookup-after (f ∷ fs) gs n m h = go (eqb (recordNumber f) n) h (lookup-after fs gs n m)
   where
-    go : (b : Bool) → cond b (ok f) (lookup fs n) ≡ refused m → (lookup fs n ≡ refused m → lookup (fs ++ gs) n ≡ lookup gs n) → cond b (ok f) (lookup (fs ++ gs) n) ≡ lookup gs n
+    go : (b : Bool) → cond b (ok f) (lookup fs n) ≡ refused m → (lookup fs n ≡ refused m → lookup (fs ++ gs) n ≡ lookup gs n)
+        → cond b (ok f) (lookup (fs ++ gs) n) ≡ lookup gs n
     go true h ih = false-true (cc)
     go false h ih = ih h
 
 pub find-more : (size at : ℕ) (fs gs : List Filed) (n p : ℕ) → findIn size at fs n ≡ ok p → findIn size at (fs ++ gs) n ≡ ok p
 unfolding findIn
 find-more size at [] gs n p h = false-true (cc)
-find-more size at (f ∷ fs) gs n p h = go (eqb (recordNumber f) n) h (find-more size (at + size + 1 + length (f .title)) fs gs n p)
+find-more size at (f ∷ fs) gs n p h = go (eqb (recordNumber f) n) h (find-more size (placeAfter size at f) fs gs n p)
   where
-    go : (b : Bool) → cond b (ok at) (findIn size (at + size + 1 + length (f .title)) fs n) ≡ ok p
-        → (findIn size (at + size + 1 + length (f .title)) fs n ≡ ok p → findIn size (at + size + 1 + length (f .title)) (fs ++ gs) n ≡ ok p)
-        → cond b (ok at) (findIn size (at + size + 1 + length (f .title)) (fs ++ gs) n) ≡ ok p
+    go : (b : Bool) → cond b (ok at) (findIn size (placeAfter size at f) fs n) ≡ ok p
+        → (findIn size (placeAfter size at f) fs n ≡ ok p → findIn size (placeAfter size at f) (fs ++ gs) n ≡ ok p)
+        → cond b (ok at) (findIn size (placeAfter size at f) (fs ++ gs) n) ≡ ok p
     go true h ih = h
     go false h ih = ih h
 
 -- a number that the list has not is looked for in what follows
-pub find-after : (size at : ℕ) (fs gs : List Filed) (n m : ℕ) → Shaped size fs → findIn size at fs n ≡ refused m → findIn size at (fs ++ gs) n ≡ findIn size (at + length (body fs)) gs n
+pub find-after : (size at : ℕ) (fs gs : List Filed) (n m : ℕ) → Shaped size fs → findIn size at fs n ≡ refused m
+    → findIn size at (fs ++ gs) n ≡ findIn size (at + length (body fs)) gs n
 unfolding findIn body
 find-after size at [] gs n m s h = let z : at ≡ at + 0 = omega arith in ap (λ (y : ℕ). findIn size y gs n) z
 find-after size at (f ∷ fs) gs n m s h =
-    go (eqb (recordNumber f) n) h (find-after size (at + size + 1 + length (f .title)) fs gs n m (s .2)) (body-next size at f fs (s .0))
+    go (eqb (recordNumber f) n) h (find-after size (placeAfter size at f) fs gs n m (s .2)) (body-next size at f fs (s .0))
   where
-    go : (b : Bool) → cond b (ok at) (findIn size (at + size + 1 + length (f .title)) fs n) ≡ refused m
-        → (findIn size (at + size + 1 + length (f .title)) fs n ≡ refused m → findIn size (at + size + 1 + length (f .title)) (fs ++ gs) n ≡ findIn size (at + size + 1 + length (f .title) + length (body fs)) gs n)
-        → at + size + 1 + length (f .title) + length (body fs) ≡ at + length (f .bytes ++ (length (f .title) ∷ (f .title ++ body fs)))
-        → cond b (ok at) (findIn size (at + size + 1 + length (f .title)) (fs ++ gs) n) ≡ findIn size (at + length (f .bytes ++ (length (f .title) ∷ (f .title ++ body fs)))) gs n
+    go : (b : Bool) {end : ℕ} → cond b (ok at) (findIn size (placeAfter size at f) fs n) ≡ refused m
+        → (findIn size (placeAfter size at f) fs n ≡ refused m
+        → findIn size (placeAfter size at f) (fs ++ gs) n ≡ findIn size (placeAfter size at f + length (body fs)) gs n)
+        → placeAfter size at f + length (body fs) ≡ end
+        → cond b (ok at) (findIn size (placeAfter size at f) (fs ++ gs) n) ≡ findIn size end gs n
     go true h ih z = false-true (cc)
     go false h ih z = ih h ∙ ap (λ (y : ℕ). findIn size y gs n) z
 
@@ -163,7 +167,7 @@ pub place-more : (size at : ℕ) (fs gs : List Filed) (i p : ℕ) → placeIn si
 unfolding placeIn
 place-more size at [] gs i p h = false-true (cc)
 place-more size at (f ∷ fs) gs zero p h = h
-place-more size at (f ∷ fs) gs (suc i) p h = place-more size (at + size + 1 + length (f .title)) fs gs i p h
+place-more size at (f ∷ fs) gs (suc i) p h = place-more size (placeAfter size at f) fs gs i p h
 
 -- ---- numbers that rise
 
@@ -181,12 +185,13 @@ find-above size at p [] n r h = refl
 find-above size at p (f ∷ fs) n r h =
     let b : (ltb p (recordNumber f) ≡ true) × (rising (recordNumber f) fs ≡ true) = both _ _ r in
     let other : recordNumber f ≡ n → ⊥ = λ same. omega (arith, same, last-above (recordNumber f) fs (b .1)) in
-    rw (ne-eqb _ _ other) (find-above size (at + size + 1 + length (f .title)) (recordNumber f) fs n (b .1) h)
+    rw (ne-eqb _ _ other) (find-above size (placeAfter size at f) (recordNumber f) fs n (b .1) h)
 
 -- ---- places
 
 -- the places of the trailer are the records'
-pub place-at : (size k : ℕ) (l : List ℕ) (t at q i : ℕ) → t ≤ length l → runs size k l t at q ≡ true → i < k → placeIn size at (filedFrom size k l at) i ≡ ok (word2 l (q + 2 * i))
+pub place-at : (size k : ℕ) (l : List ℕ) (t at q i : ℕ) → t ≤ length l → runs size k l t at q ≡ true → i < k
+    → placeIn size at (filedFrom size k l at) i ≡ ok (word2 l (q + 2 * i))
 unfolding placeIn filedFrom
 place-at size zero l t at q i h r s = absurd (omega arith)
 place-at size (suc k) l t at q zero h r s =
@@ -205,4 +210,4 @@ pub place-beyond : (size p : ℕ) (fs : List Filed) (i : ℕ) → length fs ≤ 
 unfolding placeIn
 place-beyond size p [] i h = refl
 place-beyond size p (f ∷ fs) zero h = absurd (omega arith)
-place-beyond size p (f ∷ fs) (suc i) h = place-beyond size (p + size + 1 + length (f .title)) fs i (omega arith)
+place-beyond size p (f ∷ fs) (suc i) h = place-beyond size (placeAfter size p f) fs i (omega arith)

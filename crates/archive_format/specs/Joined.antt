@@ -8,7 +8,7 @@ use lib.Dec.{ltb}
 use lib.ListN.{length, length-append}
 use Rattle.refusal.specs.Refusal.{both}
 use Rattle.archive_format.specs.declared.Edition.{Edition}
-use Rattle.archive_format.specs.Archive.{Filed, recordNumber, body, encode, printables, titled, rising, lastNumber}
+use Rattle.archive_format.specs.Archive.{Filed, recordNumber, body, encode, printables, titled, rising, lastNumber, placeAfter}
 use Rattle.archive_format.specs.Decoded.{Shaped, Fit}
 use Rattle.archive_format.specs.Encoded.{length-encode}
 
@@ -21,7 +21,8 @@ pub rising-append : (p : ℕ) (fs gs : List Filed) → rising p (fs ++ gs) ≡ (
 unfolding rising lastNumber
 rising-append p [] gs = refl
 rising-append p (f ∷ fs) gs =
-    rw (rising-append (recordNumber f) fs gs) (sym (and-assoc (ltb p (recordNumber f)) (rising (recordNumber f) fs) (rising (lastNumber (recordNumber f) fs) gs)))
+    let n : ℕ = recordNumber f in
+    rw (rising-append n fs gs) (sym (and-assoc (ltb p n) (rising n fs) (rising (lastNumber n fs) gs)))
 
 pub shaped-append : (size : ℕ) (fs gs : List Filed) → Shaped size fs → Shaped size gs → Shaped size (fs ++ gs)
 shaped-append size [] gs h k = k
@@ -38,7 +39,7 @@ body-append (f ∷ fs) gs = rw (body-append fs gs) (simp append-assoc)
 
 -- the place after a first record and those behind it
 pub body-next : (size at : ℕ) (f : Filed) (fs : List Filed) → length (f .bytes) ≡ size
-    → at + size + 1 + length (f .title) + length (body fs) ≡ at + length (body (f ∷ fs))
+    → placeAfter size at f + length (body fs) ≡ at + length (body (f ∷ fs))
 unfolding body
 body-next size at f fs sized = simp length-append (omega arith)
 

@@ -13,7 +13,8 @@ use borrow.Author.Tests.{leb-true, eqb-true}
 use Rattle.refusal.specs.Refusal.{ok, need-passed, need-rest, both}
 use Rattle.octets.specs.Octets.{word2, word4}
 use Rattle.archive_format.specs.declared.Edition.{Edition}
-use Rattle.archive_format.specs.Archive.{recordLimit, titleLimit, Filed, recordNumber, body, titled, rising, nextAt, filedAt, filedFrom, runs, decodeBody, countAt, trailerAt, marked, decode}
+use Rattle.archive_format.specs.Archive.{recordLimit, titleLimit, Filed, recordNumber, body, titled, rising, nextAt, filedAt, filedFrom, runs}
+use Rattle.archive_format.specs.Archive.{decodeBody, countAt, trailerAt, marked, decode}
 
 -- ---- one record
 
@@ -104,7 +105,8 @@ reads e l fs r =
     let sized : trailerAt l + 2 * countAt l + 6 ≡ length l = eqb-true _ _ (b1 .1) in
     let held : filedFrom (e .size) (countAt l) l 0 ≡ fs = cc (need-rest _ _ _ _ r5) in
     let within : trailerAt l ≤ length l = omega arith in
-    let reached : trailerAt l ≡ length (body (filedFrom (e .size) (countAt l) l 0)) = omega (arith, reach (e .size) (countAt l) l (trailerAt l) 0 (trailerAt l) within run) in
+    let reached : trailerAt l ≡ length (body (filedFrom (e .size) (countAt l) l 0)) =
+    omega (arith, reach (e .size) (countAt l) l (trailerAt l) 0 (trailerAt l) within run) in
     record {
       six = leb-true _ _ (a1 .0);
       mark = eqb-true _ _ (a2 .0);

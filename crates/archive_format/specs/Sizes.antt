@@ -11,7 +11,8 @@ use Rattle.refusal.specs.Refusal.{ok, false-true}
 use Rattle.octets.specs.Octets.{word4, bytes2}
 use Rattle.segment.specs.Layout as layout
 use Rattle.archive_format.specs.declared.Edition.{Edition}
-use Rattle.archive_format.specs.Archive.{recordLimit, titleLimit, Filed, body, encode, printables, titled, rising, decode, placeIn, placeOf, firstEdition}
+use Rattle.archive_format.specs.Archive.{recordLimit, titleLimit, Filed, body, encode, printables}
+use Rattle.archive_format.specs.Archive.{titled, rising, decode, placeIn, placeOf, firstEdition, placeAfter}
 use Rattle.archive_format.specs.Words.{Bytes}
 use Rattle.archive_format.specs.Decoded.{Shaped, Fit, decoded-is-fit, decoded-is-encoding}
 use Rattle.archive_format.specs.Encoded.{length-encode, encoding-reads}
@@ -33,7 +34,7 @@ unfolding placeIn body
 place-bound size p [] i x s h = false-true (cc)
 place-bound size p (f ∷ fs) zero x s h = let e : p ≡ x = cc in omega arith
 place-bound size p (f ∷ fs) (suc i) x s h =
-    simp length-append (omega (arith, s .0, place-bound size (p + size + 1 + length (f .title)) fs i x (s .2) h))
+    simp length-append (omega (arith, s .0, place-bound size (placeAfter size p f) fs i x (s .2) h))
 
 -- the first edition: 56838 bytes at most, and each number of the trailer below 65536
 pub record Small (l : List ℕ) (fs : List Filed) : Type 0 where
@@ -95,7 +96,13 @@ numbered-length zero n = refl
 numbered-length (suc k) n = ap suc (numbered-length k (n + 1))
 
 pub longest-fit : Fit firstEdition (numbered recordLimit 0)
-longest-fit = record { shaped = numbered-shaped recordLimit 0; titles = numbered-titled recordLimit 0; risen = numbered-rising recordLimit 0; many = omega (arith, numbered-length recordLimit 0) }
+longest-fit =
+    record {
+      shaped = numbered-shaped recordLimit 0;
+      titles = numbered-titled recordLimit 0;
+      risen = numbered-rising recordLimit 0;
+      many = omega (arith, numbered-length recordLimit 0);
+    }
 
 pub longest-length : length (encode firstEdition (numbered recordLimit 0)) ≡ 56838
 longest-length = omega (arith, length-encode firstEdition (numbered recordLimit 0), numbered-body recordLimit 0, numbered-length recordLimit 0)

@@ -16,8 +16,8 @@ use Rattle.propagation.specs.Steps.{Room, room-kept}
 use Rattle.working_outcome.specs.declared.Working.{Working}
 use Rattle.working.specs.Working.{Called, Works, callOf}
 use Rattle.archive_format.specs.Archive.{decode, firstEdition, nextAt, filedFrom}
-use Rattle.archive_open.specs.declared.Opened.the-variants.{Invalid, Valid}
-use Rattle.archive_open.specs.Opening.{openedOf, invalid, held, held-filed}
+use Rattle.archive_open.specs.declared.Opened.the-variants.{Invalid}
+use Rattle.archive_open.specs.Opening.{openedOf, invalid, Held, held-filed}
 use Rattle.archive_open.specs.Walking.{Walk, walk-on}
 use Rattle.report_lines.specs.Lines.{archiveRefusedLine}
 use Rattle.report_record.specs.Record.{recordText}
@@ -73,10 +73,10 @@ module _ (l : List ℕ) {b : List ℕ} {at : ℕ} {b′ : List ℕ} {p : ℕ} wh
   unfolding archiveText
   archive-refused k o v = rw (invalid firstEdition l k o) v
 
-  pub archive-read : {count t last : ℕ} → openedOf (decode firstEdition l) ≡ Valid count t last
+  pub archive-read : {count t last : ℕ} → Held firstEdition l count t last
       → Wrote b at (recordsText (filedFrom size count l 0)) b′ p → Wrote b at (archiveText l) b′ p
   unfolding archiveText
-  archive-read o v = rw (held-filed firstEdition l (held o)) v
+  archive-read h v = rw (held-filed firstEdition l h) v
 
   pub input-long : inputLimit < length l → Wrote b at (archiveRefusedLine 2) b′ p → Wrote b at (inputText l) b′ p
   unfolding inputText

@@ -1,5 +1,5 @@
 -- What opening refuses, then 6; the four tests behind it are peeled off in the paper's order, and behind them the archive is written.
-use Prim.Native.Nat.{_+_, _*_, _≤_, _<_}
+use Prim.Native.Nat.{_≤_, _<_}
 use native.Mathlib.Omega.{arith}
 use mathlib.Core.Path.{_≡_, sym, _∙_}
 use lib.ListN.{length}
@@ -10,7 +10,7 @@ use Rattle.refusal.specs.Peel.{Peeled, peel, _past_, peeled-refused, peeled-pas
 use Rattle.archive_format.specs.Archive.{recordLimit, titleLimit, addOf}
 use Rattle.archive_open.specs.Opening.{Held, held, held-fits}
 use Rattle.archive_write.specs.Writing.{grown}
-use Rattle.archive_add.proofs.Answers.{held-small, held-next, short-title, add-refused, add-invalid, add-sized, add-tests, add-done}
+use Rattle.archive_add.proofs.Answers.{moreLength, held-small, held-next, short-title, add-refused, add-invalid, add-sized, add-tests, add-done}
 use Rattle.archive_add.proofs.add_in.Statement.{statement}
 use Rattle.archive_add.proofs.add_in.Tie as tie
 
@@ -28,7 +28,7 @@ here c = held (sym (c .before .before .«open» .ensures) ∙ c .o2 .given .1)
 
 -- the new length is no number that wraps
 small : (c : tie.After-word4-at) → let o = opened c in let a = start o .args in
-    o .o2 .given .0 .1 .0 + a .e .size + 1 + length (a .title .now) + 2 * (o .o2 .given .0 .0) + 8 < 18446744073709551616
+    moreLength (a .e .size) (o .o2 .given .0 .0) (o .o2 .given .0 .1 .0) (length (a .title .now)) < 18446744073709551616
 small c = let o = opened c in omega (arith, held-small _ _ (here o) (start o .pre), start o .good)
 
 abbrev numbered : tie.After-first-failed4 → tie.After-word4-at
@@ -52,7 +52,7 @@ few c = let p = held-before (c .before .first-failed4 .ensures) (c .if2 .left) i
 
 room : (c : tie.Else2) → let o = opened (numbered (c .before)) in let a = start o .args in
     (c .before .before .before .first-failed2 .result ≡ 0)
-    × (o .o2 .given .0 .1 .0 + a .e .size + 1 + length (a .title .now) + 2 * (o .o2 .given .0 .0) + 8 ≤ length (a .out .now))
+    × (moreLength (a .e .size) (o .o2 .given .0 .0) (o .o2 .given .0 .1 .0) (length (a .title .now)) ≤ length (a .out .now))
 room c = let p = held-before (c .before .before .first-failed3 .ensures) (few c .0) in (p .0, leb-true _ _ (p .1))
 
 title : (c : tie.Else2) → length (start (opened (numbered (c .before))) .args .title .now) ≤ titleLimit
@@ -62,56 +62,11 @@ title c =
     let fits = held-before (above .before .first-failed .ensures) (held-before (above .first-failed2 .ensures) (room c .0) .0) .1 in
     short-title (start (opened w) .args .title .now) (sym (w .before .title-fits .ensures) ∙ fits)
 
-open-requires : tie.Need-open-requires
-open-requires c κs = search needs
-
-enum-known-o : tie.Need-enum-known-o
-enum-known-o c = search needs
-
 returns : tie.Need-returns
 returns c = add-refused _ _ _ _ _ _ (add-invalid _ _ _ _ _ _ (sym (c .before .before .before .«open» .ensures) ∙ c .before .o .given .1))
 
-enum-known-o-2 : tie.Need-enum-known-o-2
-enum-known-o-2 c = search needs
-
 returns-2 : tie.Need-returns-2
 returns-2 c = add-refused _ _ _ _ _ _ (add-sized _ _ _ _ (here (c .before .before)) _ (c .if1 .taken))
-
-title-fits-requires : tie.Need-title-fits-requires
-title-fits-requires c κs = search needs
-
-word4-at-requires : tie.Need-word4-at-requires
-word4-at-requires c κs = search needs
-
-add-length : tie.Need-add-length
-add-length c = omega (arith, small c)
-
-add-length-2 : tie.Need-add-length-2
-add-length-2 c = omega (arith, small c)
-
-add-length-3 : tie.Need-add-length-3
-add-length-3 c = omega (arith, small c)
-
-mul-length : tie.Need-mul-length
-mul-length c = omega (arith, small c)
-
-add-length-4 : tie.Need-add-length-4
-add-length-4 c = omega (arith, small c)
-
-add-length-5 : tie.Need-add-length-5
-add-length-5 c = omega (arith, small c)
-
-first-failed-requires : tie.Need-first-failed-requires
-first-failed-requires c κs = search needs
-
-first-failed-requires-2 : tie.Need-first-failed-requires-2
-first-failed-requires-2 c κs = search needs
-
-first-failed-requires-3 : tie.Need-first-failed-requires-3
-first-failed-requires-3 c κs = search needs
-
-first-failed-requires-4 : tie.Need-first-failed-requires-4
-first-failed-requires-4 c κs = search needs
 
 returns-3 : tie.Need-returns-3
 returns-3 c = add-refused _ _ _ _ _ _ (peeled-refused (tested (c .before)) (c .if2 .taken))
@@ -130,9 +85,6 @@ grow-requires c κs =
       enough = omega (arith, room p .1, sized);
     }
 
-same-length : tie.Need-same-length
-same-length c = search needs
-
 returns-4 : tie.Need-returns-4
 returns-4 c =
     let g = c .before .before in
@@ -145,25 +97,7 @@ returns-4 c =
 pub add-in-spec : {M : Type 1} → statement M
 add-in-spec =
     tie.close
-    (tie.spec
-    open-requires
-    enum-known-o
-    returns
-    enum-known-o-2
-    returns-2
-    title-fits-requires
-    word4-at-requires
-    add-length
-    add-length-2
-    add-length-3
-    mul-length
-    add-length-4
-    add-length-5
-    first-failed-requires
-    first-failed-requires-2
-    first-failed-requires-3
-    first-failed-requires-4
-    returns-3
-    grow-requires
-    same-length
-    returns-4)
+    (tie.spec (λ c κs. search needs) (λ c. search needs) returns (λ c. search needs) returns-2 (λ c κs. search needs) (λ c κs. search needs)
+    (λ c. omega (arith, small c)) (λ c. omega (arith, small c)) (λ c. omega (arith, small c)) (λ c. omega (arith, small c))
+    (λ c. omega (arith, small c)) (λ c. omega (arith, small c)) (λ c κs. search needs) (λ c κs. search needs) (λ c κs. search needs)
+    (λ c κs. search needs) returns-3 grow-requires (λ c. search needs) returns-4)

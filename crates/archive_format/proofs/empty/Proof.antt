@@ -1,3 +1,4 @@
+-- The six bytes are the encoding of no record.
 use mathlib.Core.Path.{refl}
 use Rattle.archive_format.specs.Archive.{encode, body, places}
 use Rattle.archive_format.proofs.empty.Statement.{statement}

@@ -19,16 +19,12 @@ word4-at-requires : tie.Need-word4-at-requires Inv-loop μ-loop
 word4-at-requires c κs = omega (arith, walk-fits (c .before .loop .inv .walk) (search needs))
 
 returns : tie.Need-returns Inv-loop μ-loop
-returns c = let in-loop = c .before .before .before in seek-found (in-loop .loop .inv) (search needs) (c .before .word4-at .ensures) (search needs) (c .if1 .taken)
+returns c =
+    let in-loop = c .before .before .before in
+    seek-found (in-loop .loop .inv) (search needs) (c .before .word4-at .ensures) (search needs) (c .if1 .taken)
 
 next-place-requires : tie.Need-next-place-requires Inv-loop μ-loop
 next-place-requires c κs = let in-loop = c .before .before .before in omega (arith, walk-fits (in-loop .loop .inv .walk) (search needs))
-
-sub-left : tie.Need-sub-left Inv-loop μ-loop
-sub-left c = search needs
-
-loop-less : tie.Need-loop-less Inv-loop μ-loop
-loop-less c = search needs
 
 loop-again : tie.Need-loop-again Inv-loop μ-loop
 loop-again c =
@@ -43,14 +39,4 @@ returns-2 c = seek-none (c .before .loop .inv) (search needs)
 pub seek-spec : {M : Type 1} → statement M
 seek-spec =
     tie.close
-    (tie.spec
-    Inv-loop
-    μ-loop
-    loop-holds
-    word4-at-requires
-    returns
-    next-place-requires
-    sub-left
-    loop-less
-    loop-again
-    returns-2)
+    (tie.spec Inv-loop μ-loop loop-holds word4-at-requires returns next-place-requires (λ c. search needs) (λ c. search needs) loop-again returns-2)

@@ -13,15 +13,6 @@ start c = c .before .before .before .before
 here : (c : tie.After-o2) → let a = start c .args in Held (a .e) (a .s .now) (c .o2 .given .0 .0) (c .o2 .given .0 .1 .0) (c .o2 .given .0 .1 .1 .0)
 here c = held (sym (c .before .before .open .ensures) ∙ c .o2 .given .1)
 
-open-requires : tie.Need-open-requires
-open-requires c κs = search needs
-
-enum-known-o : tie.Need-enum-known-o
-enum-known-o c = search needs
-
-enum-known-o-2 : tie.Need-enum-known-o-2
-enum-known-o-2 c = search needs
-
 seek-requires : tie.Need-seek-requires
 seek-requires c κs = (search needs, held-walk _ _ (here (c .before)))
 
@@ -32,6 +23,4 @@ returns-2 : tie.Need-returns-2
 returns-2 c = find-valid _ _ (here (c .before .before)) _ (c .seek .ensures)
 
 pub find-in-spec : {M : Type 1} → statement M
-find-in-spec =
-    tie.close
-    (tie.spec open-requires enum-known-o enum-known-o-2 seek-requires returns returns-2)
+find-in-spec = tie.close (tie.spec (λ c κs. search needs) (λ c. search needs) (λ c. search needs) seek-requires returns returns-2)

@@ -12,35 +12,11 @@ use Rattle.archive_read.proofs.title.Tie as tie
 here : (c : tie.After-part) → c .part .given .0 .0 + c .part .given .0 .1 .0 ≤ length (c .before .before .before .before .args .archive .now)
 here c = part-within _ _ _ _ _ (sym (c .before .before .title-part .ensures) ∙ c .part .given .1)
 
-title-part-requires : tie.Need-title-part-requires
-title-part-requires c κs = search needs
-
-enum-known-part : tie.Need-enum-known-part
-enum-known-part c = search needs
-
 add-result : tie.Need-add-result
 add-result c = omega (arith, here (c .before))
 
-sub-result : tie.Need-sub-result
-sub-result c = search needs
-
-part-result-start : tie.Need-part-result-start
-part-result-start c = search needs
-
 part-result-end : tie.Need-part-result-end
 part-result-end c = omega (arith, here (c .before))
-
-enum-told : tie.Need-enum-told
-enum-told c = search needs
-
-sub-result-2 : tie.Need-sub-result-2
-sub-result-2 c = search needs
-
-part-result-start-2 : tie.Need-part-result-start-2
-part-result-start-2 c = search needs
-
-part-result-end-2 : tie.Need-part-result-end-2
-part-result-end-2 c = search needs
 
 returns : tie.Need-returns
 returns c =
@@ -55,16 +31,5 @@ returns-2 c =
 pub title-spec : {M : Type 1} → statement M
 title-spec =
     tie.close
-    (tie.spec
-    title-part-requires
-    enum-known-part
-    add-result
-    sub-result
-    part-result-start
-    part-result-end
-    enum-told
-    sub-result-2
-    part-result-start-2
-    part-result-end-2
-    returns
-    returns-2)
+    (tie.spec (λ c κs. search needs) (λ c. search needs) add-result (λ c. search needs) (λ c. search needs) part-result-end (λ c. search needs)
+    (λ c. search needs) (λ c. search needs) (λ c. search needs) returns returns-2)

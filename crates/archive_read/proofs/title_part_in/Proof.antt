@@ -19,15 +19,6 @@ found c = sym (c .before .before .find-in .ensures) ∙ c .f2 .given .1
 here : (c : tie.After-f2) → let a = start c .args in nextAt (a .e .size) (a .s .now) (c .f2 .given .0 .0) ≤ length (a .s .now)
 here c = found-within _ _ _ _ (found c)
 
-find-in-requires : tie.Need-find-in-requires
-find-in-requires c κs = search needs
-
-enum-known-f : tie.Need-enum-known-f
-enum-known-f c = search needs
-
-enum-known-f-2 : tie.Need-enum-known-f-2
-enum-known-f-2 c = search needs
-
 add-t9 : tie.Need-add-t9
 add-t9 c = omega (arith, here (c .before))
 
@@ -39,9 +30,6 @@ add-long c = omega (arith, here (c .before))
 
 shared-slice-read-long : tie.Need-shared-slice-read-long
 shared-slice-read-long c = omega (arith, here (c .before .before))
-
-long-requires : tie.Need-long-requires
-long-requires c κs = search needs
 
 returns : tie.Need-returns
 returns c =
@@ -56,14 +44,5 @@ returns-2 c =
 pub title-part-in-spec : {M : Type 1} → statement M
 title-part-in-spec =
     tie.close
-    (tie.spec
-    find-in-requires
-    enum-known-f
-    enum-known-f-2
-    add-t9
-    add-t10
-    add-long
-    shared-slice-read-long
-    long-requires
-    returns
-    returns-2)
+    (tie.spec (λ c κs. search needs) (λ c. search needs) (λ c. search needs) add-t9 add-t10 add-long shared-slice-read-long (λ c κs. search needs)
+    returns returns-2)

@@ -29,55 +29,16 @@ ends c =
     let a = start o .args in
     trailer-is (a .s .now) (a .segment .now) (a .title .now) (start o .pre) (o .put .ensures) (c .put-record .ensures)
 
-sub-put : tie.Need-sub-put
-sub-put c = search needs
-
-part-put-start : tie.Need-part-put-start
-part-put-start c = search needs
-
-part-put-end : tie.Need-part-put-end
-part-put-end c = search needs
-
-put-requires : tie.Need-put-requires
-put-requires c κs = search needs
-
-put-record-requires : tie.Need-put-record-requires
-put-record-requires c κs = search needs
-
-mul-put : tie.Need-mul-put
-mul-put c = search needs
-
-add-put : tie.Need-add-put
-add-put c = search needs
-
-sub-put-2 : tie.Need-sub-put-2
-sub-put-2 c = search needs
-
-part-put-start-2 : tie.Need-part-put-start-2
-part-put-start-2 c = search needs
-
-part-put-end-2 : tie.Need-part-put-end-2
-part-put-end-2 c = search needs
-
-put-requires-2 : tie.Need-put-requires-2
-put-requires-2 c κs = search needs
-
 put-place-requires : tie.Need-put-place-requires
 put-place-requires c κs =
     let r = new-record (c .before .before .before) in
     omega (arith, start (old-records r) .pre .placed)
-
-add-put-end : tie.Need-add-put-end
-add-put-end c = search needs
 
 put-end-requires : tie.Need-put-end-requires
 put-end-requires c κs =
     let r = new-record (old-places (c .before .before .before)) in
     let s = start (old-records r) in
     (omega (arith, s .pre .few), omega (arith, ends r, record-length (s .args .segment .now) (s .args .title .now), s .pre .placed))
-
-same-length : tie.Need-same-length
-same-length c = search needs
 
 returns : tie.Need-returns
 returns c =
@@ -93,20 +54,6 @@ returns c =
 pub grow-spec : {M : Type 1} → statement M
 grow-spec =
     tie.close
-    (tie.spec
-    sub-put
-    part-put-start
-    part-put-end
-    put-requires
-    put-record-requires
-    mul-put
-    add-put
-    sub-put-2
-    part-put-start-2
-    part-put-end-2
-    put-requires-2
-    put-place-requires
-    add-put-end
-    put-end-requires
-    same-length
-    returns)
+    (tie.spec (λ c. search needs) (λ c. search needs) (λ c. search needs) (λ c κs. search needs) (λ c κs. search needs) (λ c. search needs)
+    (λ c. search needs) (λ c. search needs) (λ c. search needs) (λ c. search needs) (λ c κs. search needs) put-place-requires (λ c. search needs)
+    put-end-requires (λ c. search needs) returns)

@@ -1,41 +1,17 @@
+-- The digits spelt at the end of twenty places are put.
 use Rattle.text.proofs.Loops.{spelt-part}
 use borrow.Author.Needs.{needs}
 use Rattle.text.proofs.append_decimal.Statement.{statement}
 use Rattle.text.proofs.append_decimal.Tie as tie
 
-slice-aggregate-spell : tie.Need-slice-aggregate-spell
-slice-aggregate-spell c = search needs
-
-spell-requires : tie.Need-spell-requires
-spell-requires c κs = search needs
-
-sub-put : tie.Need-sub-put
-sub-put c = search needs
-
-part-put-start : tie.Need-part-put-start
-part-put-start c = search needs
-
-part-put-end : tie.Need-part-put-end
-part-put-end c = search needs
-
-put-requires : tie.Need-put-requires
-put-requires c κs = search needs
-
-same-length : tie.Need-same-length
-same-length c = search needs
-
 returns : tie.Need-returns
-returns c = rw (← (spelt-part (c .before .before .before .before .before .before .before .spell .ensures))) (c .before .before .put .ensures)
+returns c =
+    let at-put = c .before .before in
+    let places = at-put .before .before .before in
+    rw (← (spelt-part (places .before .before .spell .ensures))) (at-put .put .ensures)
 
 pub append-decimal-spec : {M : Type 1} → statement M
 append-decimal-spec =
     tie.close
-    (tie.spec
-    slice-aggregate-spell
-    spell-requires
-    sub-put
-    part-put-start
-    part-put-end
-    put-requires
-    same-length
-    returns)
+    (tie.spec (λ c. search needs) (λ c κs. search needs) (λ c. search needs) (λ c. search needs) (λ c. search needs) (λ c κs. search needs)
+    (λ c. search needs) returns)
