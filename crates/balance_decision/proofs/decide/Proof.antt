@@ -24,9 +24,6 @@ returns c = c .undecided .ensures ∙ at13 (tested (c .before .before)) (c .befo
 returns-2 : tie.Need-returns-2
 returns-2 c = c .undecided2 .ensures ∙ at14 (tested (c .before .before .before)) (c .before .before .if1 .left) (c .before .if2 .taken)
 
-settled-to-requires : tie.Need-settled-to-requires
-settled-to-requires c κs = search needs
-
 returns-3 : tie.Need-returns-3
 returns-3 c =
     let at-if2 = c .before .before in
@@ -45,5 +42,5 @@ decide-spec =
     (λ c κs. tt)
     returns-2
     (λ c κs. tt)
-    settled-to-requires
+    (λ c κs. search needs)
     returns-3)

@@ -6,15 +6,6 @@ use borrow.Author.Needs.{needs}
 use Rattle.balance_decision.proofs.settled_to.Statement.{statement}
 use Rattle.balance_decision.proofs.settled_to.Tie as tie
 
-enum-known-settling : tie.Need-enum-known-settling
-enum-known-settling c = search needs
-
-pair-rows-requires : tie.Need-pair-rows-requires
-pair-rows-requires c κs = search needs
-
-enum-known-settling-2 : tie.Need-enum-known-settling-2
-enum-known-settling-2 c = search needs
-
 returns : tie.Need-returns
 returns c =
     let at-settling = c .before .before .before in
@@ -32,10 +23,10 @@ pub settled-to-spec : {M : Type 1} → statement M
 settled-to-spec =
     tie.close
     (tie.spec
-    enum-known-settling
-    pair-rows-requires
+    (λ c. search needs)
+    (λ c κs. search needs)
     (λ c κs. tt)
-    enum-known-settling-2
+    (λ c. search needs)
     (λ c κs. tt)
     returns
     returns-2)

@@ -23,45 +23,12 @@ through-of c = c .before .before .before
 
 -- ---- the needs
 
-cast-one : tie.Need-cast-one
-cast-one c = search needs
-
-add-two : tie.Need-add-two
-add-two c = search needs
-
-add-three : tie.Need-add-three
-add-three c = search needs
-
-discharge-volumes-requires : tie.Need-discharge-volumes-requires
-discharge-volumes-requires c κs = search needs
-
-sub-fill-profile : tie.Need-sub-fill-profile
-sub-fill-profile c = search needs
-
-part-fill-profile-start : tie.Need-part-fill-profile-start
-part-fill-profile-start c = search needs
-
-part-fill-profile-end : tie.Need-part-fill-profile-end
-part-fill-profile-end c = search needs
-
 fill-profile-requires : tie.Need-fill-profile-requires
 unfolding dischargeVolumes
 fill-profile-requires c κs =
     let m = metered-of c in
     let ranges = start m .pre .0 in
     record { cycle = ranges .cycle; entry = ranges .left; volume = ap (λ (v : Counts). v .left) (m .discharge-volumes .ensures); long = search needs }
-
-mul-fill-profile : tie.Need-mul-fill-profile
-mul-fill-profile c = search needs
-
-sub-fill-profile-2 : tie.Need-sub-fill-profile-2
-sub-fill-profile-2 c = search needs
-
-part-fill-profile-start-2 : tie.Need-part-fill-profile-start-2
-part-fill-profile-start-2 c = search needs
-
-part-fill-profile-end-2 : tie.Need-part-fill-profile-end-2
-part-fill-profile-end-2 c = search needs
 
 fill-profile-requires-2 : tie.Need-fill-profile-requires-2
 unfolding dischargeVolumes
@@ -70,27 +37,12 @@ fill-profile-requires-2 c κs =
     let ranges = start m .pre .0 in
     record { cycle = ranges .cycle; entry = ranges .through; volume = ap (λ (v : Counts). v .through) (m .discharge-volumes .ensures); long = search needs }
 
-mul-fill-profile-2 : tie.Need-mul-fill-profile-2
-mul-fill-profile-2 c = search needs
-
-sub-fill-profile-3 : tie.Need-sub-fill-profile-3
-sub-fill-profile-3 c = search needs
-
-part-fill-profile-start-3 : tie.Need-part-fill-profile-start-3
-part-fill-profile-start-3 c = search needs
-
-part-fill-profile-end-3 : tie.Need-part-fill-profile-end-3
-part-fill-profile-end-3 c = search needs
-
 fill-profile-requires-3 : tie.Need-fill-profile-requires-3
 unfolding dischargeVolumes
 fill-profile-requires-3 c κs =
     let m = metered-of (left-of (through-of c .before) .before) in
     let ranges = start m .pre .0 in
     record { cycle = ranges .cycle; entry = ranges .right; volume = ap (λ (v : Counts). v .right) (m .discharge-volumes .ensures); long = search needs }
-
-same-length : tie.Need-same-length
-same-length c = search needs
 
 returns : tie.Need-returns
 returns c =
@@ -106,23 +58,23 @@ pub write-spec : {M : Type 1} → statement M
 write-spec =
     tie.close
     (tie.spec
-    cast-one
-    add-two
-    add-three
-    discharge-volumes-requires
-    sub-fill-profile
-    part-fill-profile-start
-    part-fill-profile-end
+    (λ c. search needs)
+    (λ c. search needs)
+    (λ c. search needs)
+    (λ c κs. search needs)
+    (λ c. search needs)
+    (λ c. search needs)
+    (λ c. search needs)
     fill-profile-requires
-    mul-fill-profile
-    sub-fill-profile-2
-    part-fill-profile-start-2
-    part-fill-profile-end-2
+    (λ c. search needs)
+    (λ c. search needs)
+    (λ c. search needs)
+    (λ c. search needs)
     fill-profile-requires-2
-    mul-fill-profile-2
-    sub-fill-profile-3
-    part-fill-profile-start-3
-    part-fill-profile-end-3
+    (λ c. search needs)
+    (λ c. search needs)
+    (λ c. search needs)
+    (λ c. search needs)
     fill-profile-requires-3
-    same-length
+    (λ c. search needs)
     returns)

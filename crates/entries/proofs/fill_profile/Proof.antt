@@ -15,9 +15,6 @@ discharge-requires c κs =
     let small = discharge-volume-le (start .args .c) _ _ ranges (h .volume) in
     ((omega (arith, h .cycle, h .long), rw (h .long) (ranges .green)), (omega (arith, ranges .saturation), omega (arith, ranges .arriving), small))
 
-same-length : tie.Need-same-length
-same-length c = search needs
-
 returns : tie.Need-returns
 unfolding entryProfile
 returns c =
@@ -26,4 +23,4 @@ returns c =
     at-discharge .discharge .ensures ∙ rw (start .pre .long, start .pre .volume)
 
 pub fill-profile-spec : {M : Type 1} → statement M
-fill-profile-spec = tie.close (tie.spec discharge-requires same-length returns)
+fill-profile-spec = tie.close (tie.spec discharge-requires (λ c. search needs) returns)

@@ -4,15 +4,6 @@ use borrow.Author.Needs.{needs}
 use Rattle.exports.proofs.segment_discharge.Statement.{statement}
 use Rattle.exports.proofs.segment_discharge.Tie as tie
 
-discharge-requires : tie.Need-discharge-requires
-discharge-requires c κs = search needs
-
-volumes-answer-requires : tie.Need-volumes-answer-requires
-volumes-answer-requires c κs = search needs
-
-same-length : tie.Need-same-length
-same-length c = search needs
-
 returns : tie.Need-returns
 returns c =
     let at-discharge = c .before .before .before in
@@ -20,4 +11,4 @@ returns c =
 
 pub segment-discharge-spec : {M : Type 1} → statement M
 segment-discharge-spec =
-    tie.close (tie.spec discharge-requires volumes-answer-requires same-length returns)
+    tie.close (tie.spec (λ c κs. search needs) (λ c κs. search needs) (λ c. search needs) returns)

@@ -5,12 +5,6 @@ use borrow.Author.Needs.{needs}
 use Rattle.exports.proofs.volumes_answer.Statement.{statement}
 use Rattle.exports.proofs.volumes_answer.Tie as tie
 
-enum-known-d : tie.Need-enum-known-d
-enum-known-d c = search needs
-
-enum-known-d-2 : tie.Need-enum-known-d-2
-enum-known-d-2 c = search needs
-
 returns : tie.Need-returns
 returns c = sym (ap volumesAnswer (c .before .d .given .1))
 
@@ -18,4 +12,4 @@ returns-2 : tie.Need-returns-2
 returns-2 c = sym (ap volumesAnswer (c .before .d2 .given .1))
 
 pub volumes-answer-spec : {M : Type 1} → statement M
-volumes-answer-spec = tie.close (tie.spec enum-known-d enum-known-d-2 returns returns-2)
+volumes-answer-spec = tie.close (tie.spec (λ c. search needs) (λ c. search needs) returns returns-2)

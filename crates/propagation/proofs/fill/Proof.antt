@@ -65,27 +65,12 @@ after-through c =
 
 -- ---- the needs
 
-cast-begin : tie.Need-cast-begin
-cast-begin c = search needs
-
-array-copy-out-begin : tie.Need-array-copy-out-begin
-array-copy-out-begin c = search needs
-
-begin-requires : tie.Need-begin-requires
-begin-requires c κs = search needs
-
-array-copy-out-fill-entry : tie.Need-array-copy-out-fill-entry
-array-copy-out-fill-entry c = search needs
-
 fill-entry-requires : tie.Need-fill-entry-requires
 unfolding dischargeVolumes
 fill-entry-requires c κs =
     let b = begin-of (c .before .before .before) in
     let h = start b .pre in
     fill-asks (after-begin b) (h .ranges) (omega arith) _ (h .ranges .left) (ap (λ (v : Counts). v .left) (h .volumes)) (h .shares .left)
-
-array-copy-out-fill-entry-2 : tie.Need-array-copy-out-fill-entry-2
-array-copy-out-fill-entry-2 c = search needs
 
 fill-entry-requires-2 : tie.Need-fill-entry-requires-2
 unfolding dischargeVolumes
@@ -94,24 +79,12 @@ fill-entry-requires-2 c κs =
     let h = start-left l .pre in
     fill-asks (after-left l) (h .ranges) (omega arith) _ (h .ranges .through) (ap (λ (v : Counts). v .through) (h .volumes)) (h .shares .through)
 
-array-copy-out-fill-entry-3 : tie.Need-array-copy-out-fill-entry-3
-array-copy-out-fill-entry-3 c = search needs
-
 fill-entry-requires-3 : tie.Need-fill-entry-requires-3
 unfolding dischargeVolumes
 fill-entry-requires-3 c κs =
     let t = through-of (c .before .before .before) in
     let h = start-through t .pre in
     fill-asks (after-through t) (h .ranges) (omega arith) _ (h .ranges .right) (ap (λ (v : Counts). v .right) (h .volumes)) (h .shares .right)
-
-same-length : tie.Need-same-length
-same-length c = search needs
-
-same-length-2 : tie.Need-same-length-2
-same-length-2 c = search needs
-
-same-length-3 : tie.Need-same-length-3
-same-length-3 c = search needs
 
 returns : tie.Need-returns
 returns c =
@@ -126,16 +99,16 @@ pub fill-spec : {M : Type 1} → statement M
 fill-spec =
     tie.close
     (tie.spec
-    cast-begin
-    array-copy-out-begin
-    begin-requires
-    array-copy-out-fill-entry
+    (λ c. search needs)
+    (λ c. search needs)
+    (λ c κs. search needs)
+    (λ c. search needs)
     fill-entry-requires
-    array-copy-out-fill-entry-2
+    (λ c. search needs)
     fill-entry-requires-2
-    array-copy-out-fill-entry-3
+    (λ c. search needs)
     fill-entry-requires-3
-    same-length
-    same-length-2
-    same-length-3
+    (λ c. search needs)
+    (λ c. search needs)
+    (λ c. search needs)
     returns)

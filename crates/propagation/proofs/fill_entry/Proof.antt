@@ -27,29 +27,8 @@ units c = c .flow-units .ensures ∙ ap flowUnits (start (profile-of c) .pre .vo
 
 -- ---- the needs
 
-cast-c : tie.Need-cast-c
-cast-c c = search needs
-
-sub-fill-profile : tie.Need-sub-fill-profile
-sub-fill-profile c = search needs
-
-part-discharge-start : tie.Need-part-discharge-start
-part-discharge-start c = search needs
-
-part-discharge-end : tie.Need-part-discharge-end
-part-discharge-end c = search needs
-
-fill-profile-requires : tie.Need-fill-profile-requires
-fill-profile-requires c κs = search needs
-
 flow-units-requires : tie.Need-flow-units-requires
 flow-units-requires c κs = let h = start (c .before) .pre in omega (arith, discharge-volume-le _ _ _ (h .entry) (h .volume))
-
-sub-spread : tie.Need-sub-spread
-sub-spread c = search needs
-
-part-spread-start : tie.Need-part-spread-start
-part-spread-start c = search needs
 
 part-spread-end : tie.Need-part-spread-end
 part-spread-end c =
@@ -62,15 +41,6 @@ spread-requires c κs =
     let p = profile-of u in
     entry-asks (start p .pre) (units u) (front _ _ _ (p .fill-profile .ensures) _)
 
-same-length : tie.Need-same-length
-same-length c = search needs
-
-same-length-2 : tie.Need-same-length-2
-same-length-2 c = search needs
-
-same-length-3 : tie.Need-same-length-3
-same-length-3 c = search needs
-
 returns : tie.Need-returns
 returns c =
     let at-first = c .before .before .before in
@@ -82,17 +52,17 @@ pub fill-entry-spec : {M : Type 1} → statement M
 fill-entry-spec =
     tie.close
     (tie.spec
-    cast-c
-    sub-fill-profile
-    part-discharge-start
-    part-discharge-end
-    fill-profile-requires
+    (λ c. search needs)
+    (λ c. search needs)
+    (λ c. search needs)
+    (λ c. search needs)
+    (λ c κs. search needs)
     flow-units-requires
-    sub-spread
-    part-spread-start
+    (λ c. search needs)
+    (λ c. search needs)
     part-spread-end
     spread-requires
-    same-length
-    same-length-2
-    same-length-3
+    (λ c. search needs)
+    (λ c. search needs)
+    (λ c. search needs)
     returns)

@@ -17,29 +17,11 @@ last-of c = c .before .before
 
 -- ---- the needs
 
-alternate-requires : tie.Need-alternate-requires
-alternate-requires c κs = search needs
-
-last-cycle-requires : tie.Need-last-cycle-requires
-last-cycle-requires c κs = search needs
-
-arrival-time-requires : tie.Need-arrival-time-requires
-arrival-time-requires c κs = search needs
-
 add-entry-requires : tie.Need-add-entry-requires
 add-entry-requires c κs =
     let l = last-of c in
     let a = alternate-of l in
     spread-adds _ _ _ _ (a .alternate .ensures) (start a .pre) (l .last-cycle .ensures) (c .before .arrival-time .ensures)
-
-same-length : tie.Need-same-length
-same-length c = search needs
-
-same-length-2 : tie.Need-same-length-2
-same-length-2 c = search needs
-
-same-length-3 : tie.Need-same-length-3
-same-length-3 c = search needs
 
 returns : tie.Need-returns
 returns c =
@@ -52,11 +34,11 @@ pub spread-spec : {M : Type 1} → statement M
 spread-spec =
     tie.close
     (tie.spec
-    alternate-requires
-    last-cycle-requires
-    arrival-time-requires
+    (λ c κs. search needs)
+    (λ c κs. search needs)
+    (λ c κs. search needs)
     add-entry-requires
-    same-length
-    same-length-2
-    same-length-3
+    (λ c. search needs)
+    (λ c. search needs)
+    (λ c. search needs)
     returns)

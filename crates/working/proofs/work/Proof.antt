@@ -8,18 +8,6 @@ use Rattle.working.proofs.work.Tie as tie
 abbrev valid-of : tie.After-work-accepted-arg → tie.After-accepted2
 valid-of c = c .before .before
 
-accept-requires : tie.Need-accept-requires
-accept-requires c κs = search needs
-
-enum-known-accepted : tie.Need-enum-known-accepted
-enum-known-accepted c = search needs
-
-refused-requires : tie.Need-refused-requires
-refused-requires c κs = search needs
-
-enum-known-accepted-2 : tie.Need-enum-known-accepted-2
-enum-known-accepted-2 c = search needs
-
 work-accepted-requires : tie.Need-work-accepted-requires
 work-accepted-requires c κs =
     let at-valid = valid-of (c .before .before) in
@@ -29,15 +17,6 @@ returns : tie.Need-returns
 returns c =
     let at-refused = c .before .before in
     record-refused _ _ _ (sym (at-refused .before .before .accept .ensures) ∙ at-refused .accepted .given .1) _ (c .refused .ensures)
-
-same-length : tie.Need-same-length
-same-length c = search needs
-
-same-length-2 : tie.Need-same-length-2
-same-length-2 c = search needs
-
-same-length-3 : tie.Need-same-length-3
-same-length-3 c = search needs
 
 returns-2 : tie.Need-returns-2
 returns-2 c =
@@ -50,13 +29,13 @@ pub work-spec : {M : Type 1} → statement M
 work-spec =
     tie.close
     (tie.spec
-    accept-requires
-    enum-known-accepted
-    refused-requires
-    enum-known-accepted-2
+    (λ c κs. search needs)
+    (λ c. search needs)
+    (λ c κs. search needs)
+    (λ c. search needs)
     work-accepted-requires
     returns
-    same-length
-    same-length-2
-    same-length-3
+    (λ c. search needs)
+    (λ c. search needs)
+    (λ c. search needs)
     returns-2)

@@ -27,29 +27,8 @@ decided c = decided-is _ (c .before .discharge-volumes .ensures) (c .decide .ens
 
 -- ---- the needs
 
-discharge-volumes-requires : tie.Need-discharge-volumes-requires
-discharge-volumes-requires c κs = search needs
-
 decide-requires : tie.Need-decide-requires
 decide-requires c κs = limits _ _ (start c .pre .0) (c .discharge-volumes .ensures)
-
-enum-told : tie.Need-enum-told
-enum-told c = search needs
-
-refused-requires : tie.Need-refused-requires
-refused-requires c κs = search needs
-
-enum-told-2 : tie.Need-enum-told-2
-enum-told-2 c = search needs
-
-refused-requires-2 : tie.Need-refused-requires-2
-refused-requires-2 c κs = search needs
-
-enum-known-outcome : tie.Need-enum-known-outcome
-enum-known-outcome c = search needs
-
-rows-of-requires : tie.Need-rows-of-requires
-rows-of-requires c κs = search needs
 
 fill-requires : tie.Need-fill-requires
 fill-requires c κs =
@@ -72,15 +51,6 @@ returns c = refused-is _ _ (decided (c .before .before .before)) _ (c .before .e
 returns-2 : tie.Need-returns-2
 returns-2 c = unsettled-is _ _ (decided (c .before .before .before)) _ (c .before .enum-told2 .given .1) (c .refused2 .ensures)
 
-same-length : tie.Need-same-length
-same-length c = search needs
-
-same-length-2 : tie.Need-same-length-2
-same-length-2 c = search needs
-
-same-length-3 : tie.Need-same-length-3
-same-length-3 c = search needs
-
 returns-3 : tie.Need-returns-3
 returns-3 c =
     let f = fill-of (c .before) in
@@ -92,19 +62,19 @@ pub work-accepted-spec : {M : Type 1} → statement M
 work-accepted-spec =
     tie.close
     (tie.spec
-    discharge-volumes-requires
+    (λ c κs. search needs)
     decide-requires
-    enum-told
-    refused-requires
-    enum-told-2
-    refused-requires-2
-    enum-known-outcome
-    rows-of-requires
+    (λ c. search needs)
+    (λ c κs. search needs)
+    (λ c. search needs)
+    (λ c κs. search needs)
+    (λ c. search needs)
+    (λ c κs. search needs)
     fill-requires
     worked-requires
     returns
     returns-2
-    same-length
-    same-length-2
-    same-length-3
+    (λ c. search needs)
+    (λ c. search needs)
+    (λ c. search needs)
     returns-3)

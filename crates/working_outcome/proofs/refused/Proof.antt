@@ -3,11 +3,8 @@ use borrow.Author.Needs.{needs}
 use Rattle.working_outcome.proofs.refused.Statement.{statement}
 use Rattle.working_outcome.proofs.refused.Tie as tie
 
-from-rows-requires : tie.Need-from-rows-requires
-from-rows-requires c κs = search needs
-
 returns : tie.Need-returns
 returns c = cc
 
 pub refused-spec : {M : Type 1} → statement M
-refused-spec = tie.close (tie.spec from-rows-requires returns)
+refused-spec = tie.close (tie.spec (λ c κs. search needs) returns)

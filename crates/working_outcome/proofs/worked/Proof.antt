@@ -29,92 +29,20 @@ four-runs c = output-long (start c .pre)
 
 -- ---- the needs
 
-cast-one : tie.Need-cast-one
-cast-one c = search needs
-
-add-two : tie.Need-add-two
-add-two c = search needs
-
-add-three : tie.Need-add-three
-add-three c = search needs
-
-add-four : tie.Need-add-four
-add-four c = search needs
-
-arrival-time-requires : tie.Need-arrival-time-requires
-arrival-time-requires c κs = search needs
-
-sub-figures : tie.Need-sub-figures
-sub-figures c = search needs
-
-part-figures-start : tie.Need-part-figures-start
-part-figures-start c = search needs
-
 part-figures-end : tie.Need-part-figures-end
 part-figures-end c = omega (arith, four-runs c)
-
-figures-requires : tie.Need-figures-requires
-figures-requires c κs = search needs
-
-mul-figures : tie.Need-mul-figures
-mul-figures c = search needs
-
-sub-figures-2 : tie.Need-sub-figures-2
-sub-figures-2 c = search needs
-
-part-figures-start-2 : tie.Need-part-figures-start-2
-part-figures-start-2 c = search needs
 
 part-figures-end-2 : tie.Need-part-figures-end-2
 part-figures-end-2 c = omega (arith, four-runs (arrival-of c))
 
-figures-requires-2 : tie.Need-figures-requires-2
-figures-requires-2 c κs = search needs
-
-mul-figures-2 : tie.Need-mul-figures-2
-mul-figures-2 c = search needs
-
-sub-figures-3 : tie.Need-sub-figures-3
-sub-figures-3 c = search needs
-
-part-figures-start-3 : tie.Need-part-figures-start-3
-part-figures-start-3 c = search needs
-
 part-figures-end-3 : tie.Need-part-figures-end-3
 part-figures-end-3 c = omega (arith, four-runs (arrival-of (left-of c)))
-
-figures-requires-3 : tie.Need-figures-requires-3
-figures-requires-3 c κs = search needs
-
-mul-total : tie.Need-mul-total
-mul-total c = search needs
-
-sub-total : tie.Need-sub-total
-sub-total c = search needs
-
-part-total-start : tie.Need-part-total-start
-part-total-start c = search needs
 
 part-total-end : tie.Need-part-total-end
 part-total-end c = omega (arith, four-runs (arrival-of (left-of (through-of c))))
 
-total-requires : tie.Need-total-requires
-total-requires c κs = search needs
-
-mul-blocked-steps : tie.Need-mul-blocked-steps
-mul-blocked-steps c = search needs
-
-sub-blocked-steps : tie.Need-sub-blocked-steps
-sub-blocked-steps c = search needs
-
-part-blocked-steps-start : tie.Need-part-blocked-steps-start
-part-blocked-steps-start c = search needs
-
 part-blocked-steps-end : tie.Need-part-blocked-steps-end
 part-blocked-steps-end c = omega (arith, four-runs (arrival-of (left-of (through-of (right-of c)))))
-
-blocked-steps-requires : tie.Need-blocked-steps-requires
-blocked-steps-requires c κs = search needs
 
 returns : tie.Need-returns
 returns c =
@@ -130,33 +58,33 @@ pub worked-spec : {M : Type 1} → statement M
 worked-spec =
     tie.close
     (tie.spec
-    cast-one
-    add-two
-    add-three
-    add-four
-    arrival-time-requires
-    sub-figures
-    part-figures-start
+    (λ c. search needs)
+    (λ c. search needs)
+    (λ c. search needs)
+    (λ c. search needs)
+    (λ c κs. search needs)
+    (λ c. search needs)
+    (λ c. search needs)
     part-figures-end
-    figures-requires
-    mul-figures
-    sub-figures-2
-    part-figures-start-2
+    (λ c κs. search needs)
+    (λ c. search needs)
+    (λ c. search needs)
+    (λ c. search needs)
     part-figures-end-2
-    figures-requires-2
-    mul-figures-2
-    sub-figures-3
-    part-figures-start-3
+    (λ c κs. search needs)
+    (λ c. search needs)
+    (λ c. search needs)
+    (λ c. search needs)
     part-figures-end-3
-    figures-requires-3
-    mul-total
-    sub-total
-    part-total-start
+    (λ c κs. search needs)
+    (λ c. search needs)
+    (λ c. search needs)
+    (λ c. search needs)
     part-total-end
-    total-requires
-    mul-blocked-steps
-    sub-blocked-steps
-    part-blocked-steps-start
+    (λ c κs. search needs)
+    (λ c. search needs)
+    (λ c. search needs)
+    (λ c. search needs)
     part-blocked-steps-end
-    blocked-steps-requires
+    (λ c κs. search needs)
     returns)
