@@ -33,4 +33,14 @@ returns-3 c =
 pub decide-spec : {M : Type 1} → statement M
 decide-spec =
     tie.close
-    (tie.spec (λ c κs. tt) (λ c κs. tt) (λ c κs. tt) (λ c κs. tt) returns (λ c κs. tt) returns-2 (λ c κs. tt) (λ c κs. search needs) returns-3)
+    (tie.spec
+    (λ c κs. tt)
+    (λ c κs. tt)
+    (λ c κs. tt)
+    (λ c κs. tt)
+    returns
+    (λ c κs. tt)
+    returns-2
+    (λ c κs. tt)
+    (λ c κs. search needs)
+    returns-3)

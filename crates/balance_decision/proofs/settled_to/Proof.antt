@@ -22,4 +22,11 @@ returns-2 c =
 pub settled-to-spec : {M : Type 1} → statement M
 settled-to-spec =
     tie.close
-    (tie.spec (λ c. search needs) (λ c κs. search needs) (λ c κs. tt) (λ c. search needs) (λ c κs. tt) returns returns-2)
+    (tie.spec
+    (λ c. search needs)
+    (λ c κs. search needs)
+    (λ c κs. tt)
+    (λ c. search needs)
+    (λ c κs. tt)
+    returns
+    returns-2)

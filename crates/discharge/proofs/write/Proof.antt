@@ -57,6 +57,24 @@ returns c =
 pub write-spec : {M : Type 1} → statement M
 write-spec =
     tie.close
-    (tie.spec (λ c. search needs) (λ c. search needs) (λ c. search needs) (λ c κs. search needs) (λ c. search needs) (λ c. search needs)
-    (λ c. search needs) fill-profile-requires (λ c. search needs) (λ c. search needs) (λ c. search needs) (λ c. search needs) fill-profile-requires-2
-    (λ c. search needs) (λ c. search needs) (λ c. search needs) (λ c. search needs) fill-profile-requires-3 (λ c. search needs) returns)
+    (tie.spec
+    (λ c. search needs)
+    (λ c. search needs)
+    (λ c. search needs)
+    (λ c κs. search needs)
+    (λ c. search needs)
+    (λ c. search needs)
+    (λ c. search needs)
+    fill-profile-requires
+    (λ c. search needs)
+    (λ c. search needs)
+    (λ c. search needs)
+    (λ c. search needs)
+    fill-profile-requires-2
+    (λ c. search needs)
+    (λ c. search needs)
+    (λ c. search needs)
+    (λ c. search needs)
+    fill-profile-requires-3
+    (λ c. search needs)
+    returns)

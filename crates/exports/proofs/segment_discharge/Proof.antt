@@ -10,4 +10,5 @@ returns c =
     segment-discharges _ _ _ _ _ (at-discharge .discharge .ensures) (c .volumes-answer .ensures)
 
 pub segment-discharge-spec : {M : Type 1} → statement M
-segment-discharge-spec = tie.close (tie.spec (λ c κs. search needs) (λ c κs. search needs) (λ c. search needs) returns)
+segment-discharge-spec =
+    tie.close (tie.spec (λ c κs. search needs) (λ c κs. search needs) (λ c. search needs) returns)

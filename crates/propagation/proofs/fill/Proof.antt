@@ -98,5 +98,17 @@ returns c =
 pub fill-spec : {M : Type 1} → statement M
 fill-spec =
     tie.close
-    (tie.spec (λ c. search needs) (λ c. search needs) (λ c κs. search needs) (λ c. search needs) fill-entry-requires (λ c. search needs)
-    fill-entry-requires-2 (λ c. search needs) fill-entry-requires-3 (λ c. search needs) (λ c. search needs) (λ c. search needs) returns)
+    (tie.spec
+    (λ c. search needs)
+    (λ c. search needs)
+    (λ c κs. search needs)
+    (λ c. search needs)
+    fill-entry-requires
+    (λ c. search needs)
+    fill-entry-requires-2
+    (λ c. search needs)
+    fill-entry-requires-3
+    (λ c. search needs)
+    (λ c. search needs)
+    (λ c. search needs)
+    returns)

@@ -51,5 +51,18 @@ returns c =
 pub fill-entry-spec : {M : Type 1} → statement M
 fill-entry-spec =
     tie.close
-    (tie.spec (λ c. search needs) (λ c. search needs) (λ c. search needs) (λ c. search needs) (λ c κs. search needs) flow-units-requires
-    (λ c. search needs) (λ c. search needs) part-spread-end spread-requires (λ c. search needs) (λ c. search needs) (λ c. search needs) returns)
+    (tie.spec
+    (λ c. search needs)
+    (λ c. search needs)
+    (λ c. search needs)
+    (λ c. search needs)
+    (λ c κs. search needs)
+    flow-units-requires
+    (λ c. search needs)
+    (λ c. search needs)
+    part-spread-end
+    spread-requires
+    (λ c. search needs)
+    (λ c. search needs)
+    (λ c. search needs)
+    returns)

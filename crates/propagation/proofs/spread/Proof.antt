@@ -33,5 +33,12 @@ returns c =
 pub spread-spec : {M : Type 1} → statement M
 spread-spec =
     tie.close
-    (tie.spec (λ c κs. search needs) (λ c κs. search needs) (λ c κs. search needs) add-entry-requires (λ c. search needs) (λ c. search needs)
-    (λ c. search needs) returns)
+    (tie.spec
+    (λ c κs. search needs)
+    (λ c κs. search needs)
+    (λ c κs. search needs)
+    add-entry-requires
+    (λ c. search needs)
+    (λ c. search needs)
+    (λ c. search needs)
+    returns)

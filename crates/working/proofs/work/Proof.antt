@@ -28,5 +28,14 @@ returns-2 c =
 pub work-spec : {M : Type 1} → statement M
 work-spec =
     tie.close
-    (tie.spec (λ c κs. search needs) (λ c. search needs) (λ c κs. search needs) (λ c. search needs) work-accepted-requires returns (λ c. search needs)
-    (λ c. search needs) (λ c. search needs) returns-2)
+    (tie.spec
+    (λ c κs. search needs)
+    (λ c. search needs)
+    (λ c κs. search needs)
+    (λ c. search needs)
+    work-accepted-requires
+    returns
+    (λ c. search needs)
+    (λ c. search needs)
+    (λ c. search needs)
+    returns-2)

@@ -30,9 +30,6 @@ decided c = decided-is _ (c .before .discharge-volumes .ensures) (c .decide .ens
 decide-requires : tie.Need-decide-requires
 decide-requires c κs = limits _ _ (start c .pre .0) (c .discharge-volumes .ensures)
 
-enum-told : tie.Need-enum-told
-enum-told c = search needs
-
 fill-requires : tie.Need-fill-requires
 fill-requires c κs =
     let r = c .before .before .before in
@@ -64,5 +61,20 @@ returns-3 c =
 pub work-accepted-spec : {M : Type 1} → statement M
 work-accepted-spec =
     tie.close
-    (tie.spec (λ c κs. search needs) decide-requires enum-told (λ c κs. search needs) (λ c. search needs) (λ c κs. search needs) (λ c. search needs)
-    (λ c κs. search needs) fill-requires worked-requires returns returns-2 (λ c. search needs) (λ c. search needs) (λ c. search needs) returns-3)
+    (tie.spec
+    (λ c κs. search needs)
+    decide-requires
+    (λ c. search needs)
+    (λ c κs. search needs)
+    (λ c. search needs)
+    (λ c κs. search needs)
+    (λ c. search needs)
+    (λ c κs. search needs)
+    fill-requires
+    worked-requires
+    returns
+    returns-2
+    (λ c. search needs)
+    (λ c. search needs)
+    (λ c. search needs)
+    returns-3)

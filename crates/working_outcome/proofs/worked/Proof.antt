@@ -57,8 +57,34 @@ returns c =
 pub worked-spec : {M : Type 1} → statement M
 worked-spec =
     tie.close
-    (tie.spec (λ c. search needs) (λ c. search needs) (λ c. search needs) (λ c. search needs) (λ c κs. search needs) (λ c. search needs)
-    (λ c. search needs) part-figures-end (λ c κs. search needs) (λ c. search needs) (λ c. search needs) (λ c. search needs) part-figures-end-2
-    (λ c κs. search needs) (λ c. search needs) (λ c. search needs) (λ c. search needs) part-figures-end-3 (λ c κs. search needs) (λ c. search needs)
-    (λ c. search needs) (λ c. search needs) part-total-end (λ c κs. search needs) (λ c. search needs) (λ c. search needs) (λ c. search needs)
-    part-blocked-steps-end (λ c κs. search needs) returns)
+    (tie.spec
+    (λ c. search needs)
+    (λ c. search needs)
+    (λ c. search needs)
+    (λ c. search needs)
+    (λ c κs. search needs)
+    (λ c. search needs)
+    (λ c. search needs)
+    part-figures-end
+    (λ c κs. search needs)
+    (λ c. search needs)
+    (λ c. search needs)
+    (λ c. search needs)
+    part-figures-end-2
+    (λ c κs. search needs)
+    (λ c. search needs)
+    (λ c. search needs)
+    (λ c. search needs)
+    part-figures-end-3
+    (λ c κs. search needs)
+    (λ c. search needs)
+    (λ c. search needs)
+    (λ c. search needs)
+    part-total-end
+    (λ c κs. search needs)
+    (λ c. search needs)
+    (λ c. search needs)
+    (λ c. search needs)
+    part-blocked-steps-end
+    (λ c κs. search needs)
+    returns)
