@@ -12,9 +12,6 @@ Inv-loop out₀ i₀ out i = length out ≡ length out₀
 abbrev μ-loop : tie.MeasureT-loop
 μ-loop out₀ i₀ out i = length out₀ - i
 
-loop-holds : tie.Need-loop-holds Inv-loop μ-loop
-loop-holds c = refl
-
 loop-again : tie.Need-loop-again Inv-loop μ-loop
 loop-again c = simp length-set (c .before .loop .inv)
 
@@ -24,5 +21,5 @@ same-length c = c .before .loop .inv
 pub fill-spec : {M : Type 1} → statement M
 fill-spec =
     tie.close
-    (tie.spec Inv-loop μ-loop loop-holds (λ c. search needs) (λ c. search needs) (λ c. search needs) (λ c. search needs) loop-again
-    same-length (λ c. search needs))
+    (tie.spec Inv-loop μ-loop (λ c. refl) (λ c. search needs) (λ c. search needs) (λ c. search needs) (λ c. search needs) loop-again same-length
+    (λ c. search needs))
