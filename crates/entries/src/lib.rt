@@ -8,5 +8,5 @@ pub fn fill_profile(c: u32, e: Entry, o: u32, run: &mut [u32])
     requires { ⌜ ProfileFits c e o (now run) ⌝ }
     ensures { λ _. ⌜ now (run .exit) ≡ entryProfile c e ⌝ }
 {
-    platoon::discharge(e.green, e.saturation, e.arriving, o, run);
+    platoon::discharge_profile(e.green, e.saturation, e.arriving, o, run);
 }

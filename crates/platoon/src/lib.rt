@@ -84,7 +84,7 @@ fn queue_of(c: u32, saturation: u32, arriving: u32, volume: u32) -> Queue
 }
 
 // Writes an entry's discharge profile over a run of the cycle's length.
-pub fn discharge(green: Green, saturation: u32, arriving: u32, volume: u32, run: &mut [u32])
+pub fn discharge_profile(green: Green, saturation: u32, arriving: u32, volume: u32, run: &mut [u32])
     requires { ⌜ (length (now run) < stepBound) × GreenFits (length (now run)) green ⌝ }
     requires { ⌜ (saturation ≤ flowLimit) × (arriving ≤ mostArriving) × (volume ≤ entryLimit) ⌝ }
     ensures { λ _. ⌜ now (run .exit) ≡ profileOf (length (now (run .entry))) green saturation arriving volume ⌝ }

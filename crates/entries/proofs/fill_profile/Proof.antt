@@ -7,8 +7,8 @@ use borrow.Author.Needs.{needs}
 use Rattle.entries.proofs.fill_profile.Statement.{statement}
 use Rattle.entries.proofs.fill_profile.Tie as tie
 
-discharge-requires : tie.Need-discharge-requires
-discharge-requires c κs =
+discharge-profile-requires : tie.Need-discharge-profile-requires
+discharge-profile-requires c κs =
     let start = c .before .before in
     let h = start .pre in
     let ranges = h .entry in
@@ -20,7 +20,7 @@ unfolding entryProfile
 returns c =
     let at-discharge = c .before .before in
     let start = at-discharge .before .before .before in
-    at-discharge .discharge .ensures ∙ rw (start .pre .long, start .pre .volume)
+    at-discharge .discharge-profile .ensures ∙ rw (start .pre .long, start .pre .volume)
 
 pub fill-profile-spec : {M : Type 1} → statement M
-fill-profile-spec = tie.close (tie.spec discharge-requires (λ c. search needs) returns)
+fill-profile-spec = tie.close (tie.spec discharge-profile-requires (λ c. search needs) returns)
