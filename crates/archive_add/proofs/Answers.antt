@@ -10,7 +10,7 @@ use lib.ListN.{length, take, drop, length-append}
 use lib.Seq.{take-at}
 use borrow.Author.Tests.{leb-true, eq-eqb, ne-eqb}
 use Rattle.refusal.specs.Refusal.{refused, ok, need, both}
-use Rattle.octets.specs.Octets.{word4, bytes2}
+use Rattle.octets.specs.Octets.{word4, bytes2, word2Bound}
 use Rattle.archive_format.specs.declared.Edition.{Edition}
 use Rattle.archive_format.specs.declared.Answer.the-variants.{Value, Refused}
 use Rattle.archive_format.specs.Archive.{recordLimit, titleLimit, Filed, Sized, body, placeAfter, places, encode, titleFits, filedFrom, decode}
@@ -68,7 +68,7 @@ module _ (e : Edition) (l : List ℕ) {count t last : ℕ} (h : Held e l count t
       omega (arith, bound, mul-le-mul few wide)
 
   -- two bytes hold the new trailer's place
-  pub held-next : (n : ℕ) → Sized (e .size) → count < recordLimit → n ≤ titleLimit → t + e .size + 1 + n < 65536
+  pub held-next : (n : ℕ) → Sized (e .size) → count < recordLimit → n ≤ titleLimit → t + e .size + 1 + n < word2Bound
   held-next n k m s =
       let few : count + 1 ≤ recordLimit = omega arith in
       let wide : e .size + 1 + titleLimit ≤ 127 = omega arith in

@@ -4,7 +4,7 @@ use native.Mathlib.Omega.{arith}
 use mathlib.Core.Path.{_≡_}
 use mathlib.Core.List.{List, [], _∷_, _++_}
 use lib.ListN.{length, take, drop, length-append}
-use Rattle.octets.specs.Octets.{bytes2}
+use Rattle.octets.specs.Octets.{bytes2, word2Bound}
 use Rattle.archive_format.specs.declared.Edition.{Edition}
 use Rattle.archive_format.specs.Archive.{recordLimit}
 
@@ -26,6 +26,6 @@ grown e l count t b ti =
 pub record Fits (count t old segment title room : ℕ) : Type 0 where
   pub few : count < recordLimit
   pub short : title < 256
-  pub placed : t + segment + 1 + title < 65536
+  pub placed : t + segment + 1 + title < word2Bound
   pub held : t + 2 * count ≤ old
   pub enough : t + segment + 1 + title + 2 * count + 8 ≤ room

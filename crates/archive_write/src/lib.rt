@@ -3,7 +3,7 @@
 ghost use mathlib.Core.Path.{_≡_};
 ghost use Prim.Native.Nat.{_/_, _%_, _<_};
 ghost use lib.ListN.{length};
-ghost use Rattle.octets.specs.Octets.{bytes2};
+ghost use Rattle.octets.specs.Octets.{bytes2, word2Bound};
 ghost use Rattle.buffer.specs.Buffer.{Wrote};
 ghost use Rattle.archive_write.specs.Writing.{recordBytes, endBytes, grown, Fits};
 use archive_format::Edition;
@@ -16,7 +16,7 @@ fn low(x: usize) -> u8
 }
 
 fn high(x: usize) -> u8
-    requires { ⌜ x < 65536 ⌝ }
+    requires { ⌜ x < word2Bound ⌝ }
     ensures { λ r. ⌜ r ≡ x / 256 ⌝ }
 {
     (x / 256) as u8
@@ -35,7 +35,7 @@ fn put_record(out: &mut [u8], at: usize, segment: &[u8], title: &[u8]) -> usize
 
 // A place, in two bytes.
 fn put_place(out: &mut [u8], at: usize, place: usize) -> usize
-    requires { ⌜ place < 65536 ⌝ }
+    requires { ⌜ place < word2Bound ⌝ }
     ensures { λ r. ⌜ Wrote (now (out .entry)) at (bytes2 place) (now (out .exit)) r ⌝ }
 {
     let lo = low(place);
@@ -46,7 +46,7 @@ fn put_place(out: &mut [u8], at: usize, place: usize) -> usize
 
 // What ends a trailer after its places: the count, the trailer's own place, the mark.
 fn put_end(e: Edition, out: &mut [u8], at: usize, count: usize, trailer: usize) -> usize
-    requires { ⌜ (count < 65536) × (trailer < 65536) ⌝ }
+    requires { ⌜ (count < word2Bound) × (trailer < word2Bound) ⌝ }
     ensures { λ r. ⌜ Wrote (now (out .entry)) at (endBytes e count trailer) (now (out .exit)) r ⌝ }
 {
     let count_lo = low(count);

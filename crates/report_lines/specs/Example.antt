@@ -1,7 +1,7 @@
 -- The lines of a refusal as paper 01 prints them, from the definitions.
 use mathlib.Core.Path.{_≡_, refl}
 use Rattle.text.specs.Text.{digits, field}
-use Rattle.report_lines.specs.Words.{bytes}
+use Rattle.text.specs.Words.{bytes}
 use Rattle.report_lines.specs.Lines.{refusedLine, archiveRefusedLine}
 
 pub printed-refused : refusedLine 1 7 ≡ bytes "card 1 refused 7\n"

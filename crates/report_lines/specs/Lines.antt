@@ -5,7 +5,7 @@ use Prim.Native.Char.{code}
 use mathlib.Core.List.{List, _∷_, _++_}
 use Rattle.text.specs.Text.{field}
 use Rattle.exit_figures.specs.declared.ExitFigures.{ExitFigures}
-use Rattle.report_lines.specs.Words.{bytes}
+use Rattle.text.specs.Words.{bytes}
 
 -- ---- the words
 

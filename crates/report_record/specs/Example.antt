@@ -7,7 +7,7 @@ use Rattle.pair_flows.specs.declared.PairFlows.{PairFlows}
 use Rattle.balance_decision.specs.declared.Outcome.the-variants.{Worked}
 use Rattle.working_outcome.specs.declared.Working.{Working}
 use Rattle.working_outcome.specs.Answer.{noFigures}
-use Rattle.report_lines.specs.Words.{bytes}
+use Rattle.text.specs.Words.{bytes}
 use Rattle.report_lines.specs.Lines.{recordLine, exitLine, accessLine, blockedLine}
 use Rattle.report_record.specs.Record.{workedText, recordText}
 

@@ -8,6 +8,7 @@ use lib.ListN.{getD}
 use Rattle.octets.specs.Octets.{word4, word8}
 use Rattle.lists.specs.Lists.{tab}
 use Rattle.text.specs.Text.{decimal, field}
+use Rattle.text.specs.Words.{bytes}
 
 -- a lent profile before a call: each place its own number
 unfoldable pub pattern : ℕ → ℕ → List ℕ
@@ -34,5 +35,5 @@ floatDiffers l at x = not (eqb (word8 l at) (toBits binary64 x))
 unfoldable pub closingLine : ℕ → ℕ → List ℕ
 closingLine cases differing =
     decimal cases
-    ++ field (32 ∷ 99 ∷ 97 ∷ 115 ∷ 101 ∷ 115 ∷ 44 ∷ 32 ∷ []) differing
-    ++ (32 ∷ 100 ∷ 105 ∷ 102 ∷ 102 ∷ 101 ∷ 114 ∷ 115 ∷ 10 ∷ [])
+    ++ field (bytes " cases, ") differing
+    ++ bytes " differs\n"
