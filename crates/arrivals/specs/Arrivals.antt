@@ -3,7 +3,7 @@ use Prim.Native.Nat.{ℕ, _*_, _≤_, _<_}
 use mathlib.Core.Path.{_≡_}
 use mathlib.Core.List.{List, [], _∷_, _++_}
 use lib.ListN.{length, take, drop, getD, replicate}
-use Rattle.limits.specs.Limits.{mostCycle, stepBound}
+use Rattle.limits.specs.Limits.{mostCycle, flowLimit, stepBound}
 use Rattle.lists.specs.Lists.{tab}
 use Rattle.signal.specs.Landing.{added}
 use Rattle.pair_parts.specs.PairParts.{pairArrivals}
@@ -25,10 +25,11 @@ entryAdded c t w arrived row out = perRun (λ v run. added c t 1 (pairArrivals v
 abbrev pub fourRuns : ℕ → (ℕ → ℕ → ℕ) → List ℕ → List ℕ
 fourRuns c r rest = tab (r 0) 1 c ++ (tab (r 1) 1 c ++ (tab (r 2) 1 c ++ (tab (r 3) 1 c ++ rest)))
 
--- an arrival, and a number of a run before one is added: the sums of four entries fit
+-- an arrival is no more than the largest flow rate brings in a step
 abbrev pub arrivalLimit : ℕ
-arrivalLimit = 12000000
+arrivalLimit = 1000 * flowLimit
 
+-- a number of a run to which one is added: the sum fits in 32 bits
 abbrev pub runLimit : ℕ
 runLimit = 4000000000
 
