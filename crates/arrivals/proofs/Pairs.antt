@@ -6,63 +6,46 @@ use mathlib.Core.Path.{_≡_, refl, ap, sym, _∙_}
 use mathlib.Core.List.{List}
 use lib.ListN.{length, drop, set, getD, replicate, drop-of-length-le}
 use lib.Seq.{drop-cons, set-getD}
-use Rattle.signal.specs.Turn.{turn, turn-pos, turn-le, turn-next}
+use Rattle.signal.specs.Turn.{turn}
 use Rattle.signal.specs.Landing.{added}
-use Rattle.signal.specs.Adding.{Adding, adding-start, place-within, place-clear, adding-turn, adding-done}
+use Rattle.signal.specs.Adding.{adding-done}
 use Rattle.pair_parts.specs.PairParts.{partOf, restOf, parts, pairArrivals}
 use Rattle.pair_parts.specs.Laws.{part-le, rest-lt, pair-parts, pair-without}
 use Rattle.arrivals.specs.declared.Part.{Part}
 use Rattle.arrivals.specs.Arrivals.{PairFits}
+use Rattle.arrivals.proofs.Landing.{Landing, landing-start, sum-fits, landing-turn}
 
--- i arrivals added, the rest to come; the next one lands in step `lands`
+-- the parts of i arrivals added, those of the rest to come; the carry is below the divisor
 pub record AddingPair (arrived : List ℕ) (v w t : ℕ) (run₀ run : List ℕ) (lands carry i : ℕ) : Type 0 where
-  pub within : i ≤ length arrived
   pub carried : carry < w
-  pub place : lands ≡ turn (length run₀) (i + 1 + t)
-  pub adding : Adding t (parts v w 0 arrived) (parts v w carry (drop i arrived)) run₀ run i
+  pub landing : Landing t arrived (parts v w 0 arrived) (parts v w carry (drop i arrived)) run₀ run lands i
 
 pub pair-start : (arrived : List ℕ) (v w t : ℕ) (run : List ℕ) → (v ≡ 0 → ⊥) → v ≤ w → {lands : ℕ} → lands ≡ turn (length run) (1 + t) →
     AddingPair arrived v w t run run lands 0 0
-pair-start arrived v w t run h share e = record { within = omega arith; carried = omega arith; place = e; adding = adding-start _ _ _ }
+pair-start arrived v w t run h share e = record { carried = omega arith; landing = landing-start _ _ _ _ e }
 
 module _ {arrived : List ℕ} {v w t : ℕ} {run₀ run : List ℕ} {lands carry i : ℕ} (r : AddingPair arrived v w t run₀ run lands carry i)
-    (a : PairFits v w t arrived run₀) where
-  -- the step that it lands in is one of the cycle
-  pub lands-pos : 0 < lands
-  lands-pos = rw (r .place) (turn-pos (length run₀) (i + 1 + t))
+    (a : PairFits v w t arrived run₀) (more : i < length arrived) {at : ℕ} (e : at ≡ lands - 1) {p : Part}
+    (is : (p .flow ≡ partOf v w carry (getD arrived i 0)) × (p .carry ≡ restOf v w carry (getD arrived i 0))) where
+  pub part-fits : getD run at 0 + p .flow < 2 ^ 32
+  part-fits =
+      sum-fits (r .landing) (a .lands) more e
+      (omega (arith, is .0, part-le v w carry (getD arrived i 0) (a .share) (r .carried), a .lands .arrivals i))
 
-  pub lands-le : lands ≤ length run₀
-  lands-le = rw (r .place) (turn-le (length run₀) (i + 1 + t) (a .some))
-
-  module _ (more : i < length arrived) {at : ℕ} (e : at ≡ lands - 1) where
-    in-cycle : i < length run₀
-    in-cycle = omega (arith, a .long)
-
-    pub at-within : at < length run
-    at-within = place-within (r .adding) in-cycle (r .place) e
-
-    module _ {p : Part} (is : (p .flow ≡ partOf v w carry (getD arrived i 0)) × (p .carry ≡ restOf v w carry (getD arrived i 0))) where
-      pub sum-fits : getD run at 0 + p .flow < 2 ^ 32
-      sum-fits =
-          rw (place-clear (r .adding) in-cycle (r .place) e, is .0)
-          (omega (arith, part-le v w carry (getD arrived i 0) (a .share) (r .carried), a .arrivals i, a .small at))
-
-      pub pair-turn : {after : ℕ} → after ≡ turn (length run₀) (lands + 1) →
-          AddingPair arrived v w t run₀ (set run at (getD run at 0 + p .flow)) after (p .carry) (i + 1)
-      unfolding parts
-      pair-turn n =
-          let step : i + 1 + t + 1 ≡ i + 1 + 1 + t = omega arith in
-          record {
-            within = omega arith;
-            carried = rw (is .1) (rest-lt v w carry (getD arrived i 0) (omega (arith, r .carried)));
-            place = n ∙ rw (r .place) (turn-next (length run₀) (i + 1 + t) (omega arith)) ∙ ap (turn (length run₀)) step;
-            adding = adding-turn (r .adding) in-cycle (r .place) e (rw (drop-cons arrived i 0, is .0, is .1, add-one i));
-          }
+  pub pair-turn : {after : ℕ} → after ≡ turn (length run₀) (lands + 1) →
+      AddingPair arrived v w t run₀ (set run at (getD run at 0 + p .flow)) after (p .carry) (i + 1)
+  unfolding parts
+  pair-turn n =
+      record {
+        carried = rw (is .1) (rest-lt v w carry (getD arrived i 0) (omega (arith, r .carried)));
+        landing = landing-turn (r .landing) (a .lands) more e (rw (drop-cons arrived i 0, is .0, is .1, add-one i)) n;
+      }
 
 pub pair-done : {arrived : List ℕ} {v w t : ℕ} {run₀ run : List ℕ} {lands carry i : ℕ} → AddingPair arrived v w t run₀ run lands carry i →
     length arrived ≤ i → run ≡ added (length run₀) t 1 (pairArrivals v w arrived) run₀
 unfolding parts
-pair-done {arrived} {v} {w} r h = rw (pair-parts v w arrived (omega (arith, r .carried))) (adding-done (r .adding) (rw (drop-of-length-le arrived h)))
+pair-done {arrived} {v} {w} r h =
+    rw (pair-parts v w arrived (omega (arith, r .carried))) (adding-done (r .landing .adding) (rw (drop-of-length-le arrived h)))
 
 -- zeros add nothing
 zeros-added : (c t i n : ℕ) (run : List ℕ) → run ≡ added c t i (replicate n 0) run

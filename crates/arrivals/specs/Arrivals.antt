@@ -1,17 +1,13 @@
 -- Arrivals at the exits: the output holds a run of c numbers for each exit, exits in order; what lies beyond stays.
 use Prim.Native.Nat.{ℕ, _*_, _≤_, _<_}
 use mathlib.Core.Path.{_≡_}
-use mathlib.Core.List.{List, [], _∷_, _++_}
-use lib.ListN.{length, take, drop, getD, replicate}
+use mathlib.Core.List.{List, _++_}
+use lib.ListN.{length, getD, replicate}
 use Rattle.limits.specs.Limits.{mostCycle, flowLimit, stepBound}
 use Rattle.lists.specs.Lists.{tab}
+use Rattle.runs.specs.PerRun.{perRun}
 use Rattle.signal.specs.Landing.{added}
 use Rattle.pair_parts.specs.PairParts.{pairArrivals}
-
--- the runs in front of an output, each worked with a number of its own
-unfoldable pub perRun : (ℕ → List ℕ → List ℕ) → ℕ → List ℕ → List ℕ → List ℕ
-perRun g c [] out = out
-perRun g c (v ∷ row) out = g v (take c out) ++ perRun g c row (drop c out)
 
 -- access adds its v in every step: each run begins with it, whatever stood there
 unfoldable pub begun : ℕ → List ℕ → List ℕ → List ℕ
@@ -34,14 +30,18 @@ abbrev pub runLimit : ℕ
 runLimit = 4000000000
 
 -- ranges in which the sums of one run fit
-pub record PairFits (v w t : ℕ) (arrived run : List ℕ) : Type 0 where
+pub record LandsFit (t : ℕ) (arrived run : List ℕ) : Type 0 where
   pub long : length arrived ≡ length run
   pub some : 0 < length run
   pub cycle : length run ≤ mostCycle
-  pub share : v ≤ w
   pub time : t < stepBound
   pub arrivals : (i : ℕ) → getD arrived i 0 ≤ arrivalLimit
   pub small : (k : ℕ) → getD run k 0 ≤ runLimit
+
+-- the same of a pair's part of the arrivals
+pub record PairFits (v w t : ℕ) (arrived run : List ℕ) : Type 0 where
+  pub share : v ≤ w
+  pub lands : LandsFit t arrived run
 
 -- and of the four
 pub record EntryFits (w t : ℕ) (row arrived out : List ℕ) : Type 0 where

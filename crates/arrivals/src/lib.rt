@@ -5,7 +5,7 @@ ghost use Prim.Native.Nat.{_+_, _-_, _*_, _≤_, _<_};
 ghost use lib.ListN.{length};
 ghost use Rattle.signal.specs.Landing.{added};
 ghost use Rattle.pair_parts.specs.PairParts.{partOf, restOf, pairArrivals};
-ghost use Rattle.arrivals.specs.Arrivals.{PairFits, EntryFits, begun, entryAdded};
+ghost use Rattle.arrivals.specs.Arrivals.{LandsFit, PairFits, EntryFits, begun, entryAdded};
 use signal::Step;
 
 // A pair's part of one arrival, and what is carried to the next.
@@ -45,6 +45,22 @@ fn add_pair(arrived: &[u32], v: u32, w: u32, t: u32, run: &mut [u32])
         carry = piece.carry;
         lands = signal::next(c, lands);
         i += 1;
+    }
+}
+
+// Arrivals are added to a run, whole, where their steps land.
+pub fn add_whole(arrived: &[u32], t: u32, run: &mut [u32])
+    requires { ⌜ LandsFit t (now arrived) (now run) ⌝ }
+    ensures { λ _. ⌜ now (run .exit) ≡ added (length (now (run .entry))) t 1 (now (arrived .entry)) (now (run .entry)) ⌝ }
+{
+    let c = run.len() as u32;
+    let mut step = signal::later(c, Step(1), t);
+    let mut k: usize = 0;
+    while k < arrived.len() {
+        let at = signal::index(step);
+        run[at] += arrived[k];
+        step = signal::next(c, step);
+        k += 1;
     }
 }
 

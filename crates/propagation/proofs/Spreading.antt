@@ -1,28 +1,23 @@
 -- One entry: what its dispersion and its arrivals ask, and what they leave, over plain variables.
-use Prim.Native.Nat.{ℕ, _+_, _-_, _≤_, _<_}
+use Prim.Native.Nat.{ℕ, _+_, _-_, _≤_}
 use native.Mathlib.Omega.{arith}
 use native.Mathlib.Nat.{sub-zero}
 use mathlib.Core.Path.{_≡_, ap, _∙_}
 use mathlib.Core.List.{List, _++_}
 use lib.ListN.{length, take, drop, length-append}
 use lib.Seq.{take-at}
-use Rattle.limits.specs.Limits.{mostRunning, stepBound}
 use Rattle.segment.specs.declared.Entry.{Entry}
 use Rattle.metering.specs.Metering.{dischargeUnits}
 use Rattle.entries.specs.Entries.{entryProfile}
 use Rattle.entries.specs.Laws.{entry-length, entry-le}
 use Rattle.dispersion.specs.declared.PlatoonState.{PlatoonState}
 use Rattle.dispersion.specs.Dispersion.{Work, work, arrivalTimeOf, reported, cyclesWorked, lastPart}
-use Rattle.dispersion.specs.Arrivals.{arrival-time-nearest}
+use Rattle.dispersion.specs.Arrivals.{arrival-time-small}
 use Rattle.dispersion.specs.Cycles.{last-part, two-left, reported-length, reported-le}
 use Rattle.arrivals.specs.Arrivals.{arrivalLimit, entryAdded}
 use Rattle.arrivals.specs.Arrivals as arrivals
 use Rattle.propagation.specs.Propagation.{Profiles, profiles, cycles}
 use Rattle.propagation.specs.Steps.{SpreadFits, spreadStep, FillEntryFits, entryStep}
-
--- the platoon arrival time is small
-pub time-small : (running : ℕ) → running ≤ mostRunning → arrivalTimeOf running < stepBound
-time-small running h = omega (arith, arrival-time-nearest running)
 
 module _ (running : ℕ) (q f g : List ℕ) {st : PlatoonState} {f′ g′ : List ℕ} (e : work st f′ g′ ≡ cyclesWorked running q cycles f g) where
   -- the part handed back is the reported cycle
@@ -70,7 +65,7 @@ entry-asks {running} {c} {o} {e} {row} {p} h eu eq =
         cycle = omega (arith, n, h .cycle);
         room = omega (arith, n, h .room .output);
         shares = h .shares;
-        time = time-small running (h .time);
+        time = arrival-time-small running (h .time);
         arrivals = reported-le running arrivalLimit (entryProfile c e) cycles (entry-le c e (h .entry));
         small = λ k hk. h .small k (rw n at hk);
       };

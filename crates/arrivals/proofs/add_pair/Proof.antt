@@ -2,7 +2,8 @@
 use Prim.Native.Nat.{_-_, _<_}
 use native.Mathlib.Omega.{arith}
 use lib.ListN.{length}
-use Rattle.arrivals.proofs.Pairs.{AddingPair, pair-start, lands-pos, lands-le, at-within, sum-fits, pair-turn, pair-done, none-added}
+use Rattle.arrivals.proofs.Landing.{lands-pos, lands-le, at-within}
+use Rattle.arrivals.proofs.Pairs.{AddingPair, pair-start, part-fits, pair-turn, pair-done, none-added}
 use Rattle.arrivals.proofs.add_pair.Statement.{statement}
 use Rattle.arrivals.proofs.add_pair.Tie as tie
 
@@ -24,16 +25,16 @@ start c = c .before .before .before
 
 -- the place where an arrival lands lies in the run
 place : (c : tie.After-index Inv-loop μ-loop) → c .index .result < length (turn-of c .before .loop .run)
-place c = let t = turn-of c in at-within (t .before .loop .inv) (start (shared t) .pre) (t .loop-test .taken) (c .index .ensures)
+place c = let t = turn-of c in at-within (t .before .loop .inv .landing) (start (shared t) .pre .lands) (t .loop-test .taken) (c .index .ensures)
 
 returns : tie.Need-returns Inv-loop μ-loop
 returns c = none-added _ _ _ _ _ (c .if1 .taken)
 
 cast-c : tie.Need-cast-c Inv-loop μ-loop
-cast-c c = omega (arith, start c .pre .cycle)
+cast-c c = omega (arith, start c .pre .lands .cycle)
 
 later-requires : tie.Need-later-requires Inv-loop μ-loop
-later-requires c κs = let p = start c .pre in omega (arith, p .some, p .cycle, p .time)
+later-requires c κs = let p = start c .pre .lands in omega (arith, p .some, p .cycle, p .time)
 
 loop-holds : tie.Need-loop-holds Inv-loop μ-loop
 loop-holds c = pair-start _ _ _ _ _ (c .before .if1 .left) (start (c .before) .pre .share) (c .later .ensures)
@@ -42,7 +43,7 @@ part-of-requires : tie.Need-part-of-requires Inv-loop μ-loop
 part-of-requires c κs = omega (arith, start (shared (c .before)) .pre .share)
 
 index-requires : tie.Need-index-requires Inv-loop μ-loop
-index-requires c κs = let t = c .before .before in lands-pos (t .before .loop .inv) (start (shared t) .pre)
+index-requires c κs = let t = c .before .before in lands-pos (t .before .loop .inv .landing) (start (shared t) .pre .lands)
 
 mul-run : tie.Need-mul-run Inv-loop μ-loop
 mul-run c = omega (arith, place c)
@@ -54,7 +55,7 @@ add-run : tie.Need-add-run Inv-loop μ-loop
 add-run c =
     let i = c .before .before in
     let t = turn-of i in
-    record { fits = sum-fits (t .before .loop .inv) (start (shared t) .pre) (t .loop-test .taken) (i .index .ensures) (i .before .part-of .ensures) }
+    record { fits = part-fits (t .before .loop .inv) (start (shared t) .pre) (t .loop-test .taken) (i .index .ensures) (i .before .part-of .ensures) }
 
 slice-write-run : tie.Need-slice-write-run Inv-loop μ-loop
 slice-write-run c = place (c .before .before)
@@ -62,8 +63,8 @@ slice-write-run c = place (c .before .before)
 next-requires : tie.Need-next-requires Inv-loop μ-loop
 next-requires c κs =
     let t = turn-of (c .before .before) in
-    let inv = t .before .loop .inv in
-    let pre = start (shared t) .pre in
+    let inv = t .before .loop .inv .landing in
+    let pre = start (shared t) .pre .lands in
     omega (arith, lands-pos inv pre, lands-le inv pre, pre .cycle)
 
 loop-again : tie.Need-loop-again Inv-loop μ-loop
@@ -73,7 +74,7 @@ loop-again c =
     pair-turn (t .before .loop .inv) (start (shared t) .pre) (t .loop-test .taken) (i .index .ensures) (i .before .part-of .ensures) (c .next .ensures)
 
 same-length : tie.Need-same-length Inv-loop μ-loop
-same-length c = c .before .loop .inv .adding .long
+same-length c = c .before .loop .inv .landing .adding .long
 
 returns-2 : tie.Need-returns-2 Inv-loop μ-loop
 returns-2 c = pair-done (c .before .loop .inv) (c .loop-test .left)
