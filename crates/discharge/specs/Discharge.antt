@@ -1,16 +1,16 @@
 -- The discharge call on a segment record: three profiles of C numbers each, entries in order, and the three discharge volumes.
-use Prim.Native.Nat.{ℕ, _+_, _*_}
+use Prim.Native.Nat.{ℕ, _*_}
 use mathlib.Core.Path.{_≡_}
-use mathlib.Core.List.{List, [], _∷_, _++_}
+use mathlib.Core.List.{List, [], _∷_}
 use lib.Dec.{leb}
-use lib.ListN.{length, drop}
+use lib.ListN.{length}
 use Rattle.runs.specs.Runs.{runAt}
 use Rattle.refusal.specs.Refusal.{Or, refused, ok, test}
 use Rattle.segment.specs.declared.Segment.{Segment}
 use Rattle.segment.specs.Segment.{segmentOf}
 use Rattle.validation.specs.Accepting.{acceptWith}
 use Rattle.metering.specs.Metering.{dischargeVolume}
-use Rattle.entries.specs.Entries.{entryProfile, EntryDischarge}
+use Rattle.entries.specs.Entries.{entryProfiles, EntryDischarge}
 use Rattle.discharge.specs.declared.Discharged.{Discharged}
 use Rattle.discharge.specs.declared.Discharged.the-variants.{Refused, Volumes}
 
@@ -23,16 +23,10 @@ abbrev pub answerOf : Or Segment → Discharged
 answerOf (refused n) = Refused n
 answerOf (ok s) = Volumes (dischargeVolume (s .cycle) (s .left)) (dischargeVolume (s .cycle) (s .through)) (dischargeVolume (s .cycle) (s .right))
 
--- three runs in order, numbers beyond staying
-unfoldable pub written : Segment → List ℕ → List ℕ
-written s p =
-    entryProfile (s .cycle) (s .left)
-    ++ (entryProfile (s .cycle) (s .through) ++ (entryProfile (s .cycle) (s .right) ++ drop (3 * s .cycle) p))
-
--- the lent profile afterwards: as it was where the call refuses
+-- the lent profile afterwards: three runs in order, or as it was where the call refuses
 abbrev pub profileAfter : Or Segment → List ℕ → List ℕ
 profileAfter (refused n) p = p
-profileAfter (ok s) p = written s p
+profileAfter (ok s) p = entryProfiles s p
 
 -- the three entries of a segment, read from the front of a profile, by their discharge volumes
 pub record EntriesDischarge (s : Segment) (o₁ o₂ o₃ : ℕ) (p : List ℕ) : Type 0 where

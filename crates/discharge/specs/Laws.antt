@@ -1,45 +1,37 @@
 -- Of every accepted record each entry's run in the profile is its discharge, at the volume answered; no refusal has the number 0.
 use Prim.Native.Nat.{ℕ, _<_}
-use native.Mathlib.Omega.{arith}
-use mathlib.Core.Path.{_≡_, refl, sym, ap, _∙_}
-use mathlib.Core.List.{List, _++_}
+use mathlib.Core.Path.{_≡_, refl, ap, _∙_}
+use mathlib.Core.List.{List}
 use lib.Dec.{ltb}
 use lib.ListN.{length}
 use borrow.Author.Tests.{ltb-true}
-use Rattle.runs.specs.Runs.{run-first, run-behind}
 use Rattle.refusal.specs.Refusal.{Or, refused, ok, false-true}
 use Rattle.segment.specs.declared.Segment.{Segment}
 use Rattle.segment.specs.Segment.{segmentOf}
 use Rattle.ranges.specs.Ranges.{Ranges}
 use Rattle.validation.specs.Accepting.{accept-passed, accept-numbers}
 use Rattle.metering.specs.Metering.{dischargeVolume}
-use Rattle.entries.specs.Entries.{entryProfile}
-use Rattle.entries.specs.Laws.{entry-length, entry-discharge}
+use Rattle.entries.specs.Entries.{entryProfiles}
+use Rattle.entries.specs.Laws.{entry-discharge, entry-runs}
 use Rattle.discharge.specs.declared.Discharged.{Discharged}
 use Rattle.discharge.specs.declared.Discharged.the-variants.{Refused, Volumes}
-use Rattle.discharge.specs.Discharge.{acceptOf, answerOf, written, profileAfter, EntriesDischarge, Calls}
+use Rattle.discharge.specs.Discharge.{acceptOf, answerOf, profileAfter, EntriesDischarge, Calls}
 
--- three runs of C numbers, whatever stands beyond them
-runs-discharge : (s : Segment) (rest : List ℕ) → Ranges s →
+-- each run at its entry's discharge volume
+runs-discharge : (s : Segment) (p : List ℕ) → Ranges s →
     EntriesDischarge s (dischargeVolume (s .cycle) (s .left)) (dischargeVolume (s .cycle) (s .through)) (dischargeVolume (s .cycle) (s .right))
-    (entryProfile (s .cycle) (s .left) ++ (entryProfile (s .cycle) (s .through) ++ (entryProfile (s .cycle) (s .right) ++ rest)))
-runs-discharge s rest r =
-    let c = s .cycle in
-    let x = entryProfile c (s .left) in
-    let y = entryProfile c (s .through) in
-    let z = entryProfile c (s .right) in
-    let past-x = run-behind c x (y ++ (z ++ rest)) (entry-length c (s .left)) in
-    let past-y = run-behind c y (z ++ rest) (entry-length c (s .through)) in
+    (entryProfiles s p)
+runs-discharge s p r =
+    let runs = entry-runs s p in
     record {
-      left = rw (run-first c x (y ++ (z ++ rest)) (entry-length c (s .left))) (entry-discharge c (s .left) (r .left));
-      through = rw (past-x 0, run-first c y (z ++ rest) (entry-length c (s .through))) (entry-discharge c (s .through) (r .through));
-      right = rw (past-x 1, past-y 0, run-first c z rest (entry-length c (s .right))) (entry-discharge c (s .right) (r .right));
+      left = rw (runs .left) (entry-discharge (s .cycle) (s .left) (r .left));
+      through = rw (runs .through) (entry-discharge (s .cycle) (s .through) (r .through));
+      right = rw (runs .right) (entry-discharge (s .cycle) (s .right) (r .right));
     }
 
 -- at the volumes that the call answered
 entries-discharge : (l p : List ℕ) (r : Discharged) (p′ : List ℕ) → r ≡ answerOf (acceptOf l (length p)) → p′ ≡ profileAfter (acceptOf l (length p)) p →
     (left through right : ℕ) → r ≡ Volumes left through right → EntriesDischarge (segmentOf l) left through right p′
-unfolding written
 entries-discharge l p r p′ er ep left through right e = go (acceptOf l (length p)) refl er ep
   where
     go : (x : Or Segment) → acceptOf l (length p) ≡ x → r ≡ answerOf x → p′ ≡ profileAfter x p → EntriesDischarge (segmentOf l) left through right p′
@@ -49,7 +41,7 @@ entries-discharge l p r p′ er ep left through right e = go (acceptOf l (length
         let el : left ≡ dischargeVolume (s .cycle) (s .left) = cc in
         let et : through ≡ dischargeVolume (s .cycle) (s .through) = cc in
         let eg : right ≡ dischargeVolume (s .cycle) (s .right) = cc in
-        rw (ep, el, et, eg, ← a .is) (runs-discharge s _ (a .ranges))
+        rw (ep, el, et, eg, ← a .is) (runs-discharge s p (a .ranges))
 
 -- so the answer and the profile are all of the contract
 pub called : (l p : List ℕ) (r : Discharged) (p′ : List ℕ) → r ≡ answerOf (acceptOf l (length p)) → p′ ≡ profileAfter (acceptOf l (length p)) p →

@@ -5,7 +5,8 @@ ghost use lib.ListN.{length};
 ghost use Rattle.refusal.specs.Refusal.{ok};
 ghost use Rattle.ranges.specs.Ranges.{Ranges};
 ghost use Rattle.validation.specs.Validation.{checkedOf};
-ghost use Rattle.discharge.specs.Discharge.{Calls, acceptOf, answerOf, written};
+ghost use Rattle.entries.specs.Entries.{entryProfiles};
+ghost use Rattle.discharge.specs.Discharge.{Calls, acceptOf, answerOf};
 use segment::Segment;
 use validation::Checked;
 
@@ -34,15 +35,10 @@ fn accept(bytes: &[u8], room: usize) -> Checked
 fn write(s: Segment, profile: &mut [u32]) -> Discharged
     requires { ⌜ Ranges s × (3 * s .cycle ≤ length (now profile)) ⌝ }
     ensures { λ r. ⌜ r ≡ answerOf (ok s) ⌝ }
-    ensures { λ _. ⌜ now (profile .exit) ≡ written s (now (profile .entry)) ⌝ }
+    ensures { λ _. ⌜ now (profile .exit) ≡ entryProfiles s (now (profile .entry)) ⌝ }
 {
-    let one = s.cycle as usize;
-    let two = one + one;
-    let three = two + one;
     let o = metering::discharge_volumes(s);
-    entries::fill_profile(s.cycle, s.left, o.left, &mut profile[0..one]);
-    entries::fill_profile(s.cycle, s.through, o.through, &mut profile[one..two]);
-    entries::fill_profile(s.cycle, s.right, o.right, &mut profile[two..three]);
+    entries::fill_profiles(s, o, profile);
     Discharged::Volumes {
         left: o.left,
         through: o.through,

@@ -17,9 +17,9 @@ use Rattle.ranges.specs.Tests.{cycleFits, runningFits, headwayFits, volumesFit,
 use Rattle.validation.specs.Validation.{checkOf}
 use Rattle.metering.specs.Metering.{capacity, dischargeVolume}
 use Rattle.platoon.specs.Discharge.{carried, greenArrivals, received, servedOf, served, queueOf, greenFlows, profileOf}
-use Rattle.entries.specs.Entries.{entryProfile}
+use Rattle.entries.specs.Entries.{entryProfile, entryProfiles}
 use Rattle.validation.specs.Accepting.{acceptWith}
-use Rattle.discharge.specs.Discharge.{acceptOf, written, profileAfter}
+use Rattle.discharge.specs.Discharge.{acceptOf, profileAfter}
 use Rattle.dispersion.specs.Dispersion.{divisorOf, arrivalTimeOf, emptyState, stepOf, stateAfter}
 use Rattle.pair_parts.specs.PairParts.{parts, pairArrivals}
 use Rattle.exit_figures.specs.ExitFigures.{blocked, blockedSteps}
@@ -83,5 +83,5 @@ unfolding computed divisorOf arrivalTimeOf stepOf stateAfter parts pairArrivals 
     rising lastNumber filedFrom runs decodeBody decode addTo addOf emptyArchive oneRecord tab turn greenStep greenSteps capacity received
     landing landed need word2 word4 greenOf greensOf entryOf volumesOf rowOf tableOf zeroSeeds seedsOf segmentOf cycleFits runningFits
     headwayFits volumesFit greensFit seedsAdd checkOf dischargeVolume carried greenArrivals servedOf served queueOf greenFlows profileOf
-    entryProfile acceptWith written
+    entryProfile entryProfiles acceptWith
 figures = refl
