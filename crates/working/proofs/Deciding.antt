@@ -1,40 +1,45 @@
--- The ways of the call, over plain variables; and demand 3 of every one that works.
+-- The ways of the call, over plain variables.
 use Prim.Native.Nat.{ℕ, _*_}
 use native.Mathlib.Omega.{arith}
-use mathlib.Core.Bool.{not, _&&_}
-use mathlib.Core.Path.{_≡_, refl, ap, sym, subst, _∙_}
+use mathlib.Core.Path.{_≡_, refl, ap, subst, _∙_}
 use mathlib.Core.List.{List}
-use lib.Dec.{leb, eqb}
 use lib.Ieee.{Float}
 use lib.ListN.{length, drop}
-use borrow.Author.Tests.{leb-true, not-true}
-use Rattle.refusal.specs.Refusal.{Or, refused, ok, both, false-true}
+use Rattle.refusal.specs.Refusal.{Or, ok, false-true}
+use Rattle.movements.specs.declared.Counts.{Counts}
 use Rattle.segment.specs.declared.Segment.{Segment}
-use Rattle.segment.specs.Segment.{segmentOf}
+use Rattle.ranges.specs.Ranges.{Ranges}
 use Rattle.validation.specs.declared.Checked.the-variants as checked
 use Rattle.validation.specs.Validation.{checkedOf}
-use Rattle.validation.specs.Accepting.{checked-refused, checked-valid, accept-passed, accept-numbers}
-use Rattle.ranges.specs.Ranges.{Ranges}
 use Rattle.validation.specs.Accepted.{Accepted}
-use Rattle.movements.specs.declared.Counts.{Counts}
-use Rattle.balance_flows.specs.Flows.{zero64}
-use Rattle.metering.specs.Metering.{dischargeVolumes}
-use Rattle.balance_decision.specs.declared.Outcome.{Outcome}
+use Rattle.validation.specs.Accepting.{checked-refused, checked-valid, accept-passed}
+use Rattle.metering.specs.Metering.{dischargeVolumes, discharge-volume-entry}
+use Rattle.balance_pairs.specs.Pairs.{WithinLimit}
 use Rattle.balance_decision.specs.declared.Outcome.the-variants.{Worked, Refused, Unsettled}
 use Rattle.balance_decision.specs.declared.Decision.{Decision}
-use Rattle.balance_decision.specs.Outcome.{outcomeOf, refusalOf}
+use Rattle.balance_decision.specs.Outcome.{refusalOf}
 use Rattle.balance_decision.specs.Decision.{decisionOf}
 use Rattle.propagation.specs.Propagation.{Profiles, filledOf}
 use Rattle.propagation.specs.Steps.{Room, FillFits}
 use Rattle.accuracy.specs.Accuracy.{Accurate}
-use Rattle.accuracy.specs.Holds.{filled-accurate}
 use Rattle.working_outcome.specs.declared.Working.{Working}
 use Rattle.working_outcome.specs.Answer.{refusedWith, workedOf}
-use Rattle.working.specs.Working.{acceptOf, decisionFor, Called, called, byOutcome, byDecision, decided-outcome, callOf, Works}
 use Rattle.working_outcome.specs.Filled.{Filled}
-use Rattle.working.proofs.Rows.{rows-fit}
+use Rattle.working.specs.Working.{acceptOf, decisionFor, called, byDecision, callOf, Works}
+use Rattle.working.specs.Decided.{fits-room, rows-fit, decided-accurate, own-case}
 
 -- ---- what the volumes decide
+
+-- an accepted record's discharge volumes are within their limit
+pub limits : (s : Segment) (o : Counts) → Ranges s → o ≡ dischargeVolumes s → WithinLimit o
+unfolding dischargeVolumes
+limits s o r e =
+    rw e (
+      omega (arith, discharge-volume-entry (s .cycle) (s .left), r .left .volume),
+      omega (arith, discharge-volume-entry (s .cycle) (s .through), r .through .volume),
+      omega (arith, discharge-volume-entry (s .cycle) (s .right), r .right .volume),
+      r .access,
+    )
 
 pub decided-is : (s : Segment) {o : Counts} {d : Decision} → o ≡ dischargeVolumes s → d ≡ decisionOf o (s .exits) (s .seeds) → d ≡ decisionFor s
 unfolding decisionFor
@@ -66,45 +71,28 @@ module _ (l : List ℕ) (p : Profiles) where
   accepts = acceptOf l (length (p .output)) (length (p .first)) (length (p .second))
 
   passed : (s : Segment) → accepts ≡ ok s → Accepted l s × Room (s .cycle) p
-  passed s e =
-      let a = accept-passed l _ s e in
-      let c = s .cycle in
-      let t = both (leb (4 * c) (length (p .output)) && leb c (length (p .first))) (leb c (length (p .second))) (a .1 16) in
-      let u = both (leb (4 * c) (length (p .output))) (leb c (length (p .first))) (t .0) in
-      (a .0, record { output = leb-true _ _ (u .0); first = leb-true _ _ (u .1); second = leb-true _ _ (t .1) })
+  passed s e = let a = accept-passed l _ s e in (a .0, fits-room s p (a .1 16))
 
   pub record-passed : (s : Segment) → checkedOf accepts ≡ checked.Valid s → Ranges s × Room (s .cycle) p
   record-passed s e = let a = passed s (checked-valid accepts s e) in (a .0 .ranges, a .1)
-
-  -- demand 3 of whatever the call works
-  worked-accurate : (s : Segment) → accepts ≡ ok s → (w : Working) (p′ : Profiles) → called w p′ ≡ byDecision s (decisionFor s) p →
-      (x : Float) → w .outcome ≡ Worked x → Accurate (segmentOf l) (w .pairs .rows) p′
-  unfolding workedOf
-  worked-accurate s a w p′ q x ew =
-      let d = decisionFor s in
-      let eo : d .outcome ≡ Worked x = sym (ap (λ (c : Called). c .answer .outcome) q ∙ decided-outcome s d p) ∙ ew in
-      let worked : called w p′ ≡ byOutcome (Worked x) s d p = q ∙ ap (λ (o : Outcome). byOutcome o s d p) eo in
-      let rows : w .pairs .rows ≡ d .pairs .rows = ap (λ (c : Called). c .answer .pairs .rows) worked in
-      let left : p′ ≡ filledOf s (d .pairs .rows) p = ap (λ (c : Called). c .after) worked in
-      subst (λ (u : Segment). Accurate u (w .pairs .rows) p′) (passed s a .0 .is)
-      (rw (rows, left) (filled-accurate s (d .pairs .rows) p (rows-fit s (ap refusalOf eo))))
 
   -- the call, worked or refused for its volumes
   pub record-worked : (s : Segment) → checkedOf accepts ≡ checked.Valid s → (w : Working) (p′ : Profiles) →
       called w p′ ≡ byDecision s (decisionFor s) p → Works l p w p′
   unfolding callOf
-  record-worked s e w p′ q = let a = checked-valid accepts s e in record { is = q ∙ rw a; accurate = worked-accurate s a w p′ q }
+  record-worked s e w p′ q =
+      let a = checked-valid accepts s e in
+      record {
+        is = q ∙ rw a;
+        accurate = λ x o. subst (λ (u : Segment). Accurate u (w .pairs .rows) p′) (passed s a .0 .is) (decided-accurate s p w p′ q x o);
+      }
 
-  -- refused for its record or a profile's length, so not by 0 or 15
-  own-case : (n : ℕ) → accepts ≡ refused n → outcomeOf n zero64 ≡ Refused n
-  own-case n e =
-      let k = both (not (eqb n 0)) (not (eqb n 15)) (accept-numbers l _ (λ m holds. not (eqb m 0) && not (eqb m 15)) refl (λ s. refl) n e) in
-      rw (not-true (eqb n 0) (k .0), not-true (eqb n 15) (k .1))
-
+  -- refused for its record or a profile's length
   pub record-refused : (n : ℕ) → checkedOf accepts ≡ checked.Refused n → (w : Working) → w ≡ refusedWith (Refused n) → Works l p w p
   unfolding callOf
   record-refused n e w ew =
+      let a = checked-refused accepts n e in
       record {
-        is = rw (checked-refused accepts n e, own-case n (checked-refused accepts n e)) (ap (λ (v : Working). called v p) ew);
+        is = rw (a, own-case l _ (λ s. refl) n a) (ap (λ (v : Working). called v p) ew);
         accurate = λ x o. false-true (cc (ap (λ (v : Working). v .outcome) ew));
       }

@@ -29,8 +29,13 @@ fn accept(bytes: &[u8], output: usize, first: usize, second: usize) -> Checked
     }
 }
 
-// The volumes are decided before anything is written.
-fn work_accepted(s: Segment, output: &mut [u32], first: &mut [u32], second: &mut [u32]) -> Working
+// An accepted record: the volumes are decided before anything is written.
+pub fn work_accepted(
+    s: Segment,
+    output: &mut [u32],
+    first: &mut [u32],
+    second: &mut [u32],
+) -> Working
     requires { ⌜ Ranges s × Room (s .cycle) (lent output first second) ⌝ }
     ensures { λ r. ⌜ called r (lent (output .exit) (first .exit) (second .exit))
         ≡ byDecision s (decisionFor s) (lent (output .entry) (first .entry) (second .entry)) ⌝ }

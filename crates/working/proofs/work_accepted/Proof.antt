@@ -2,8 +2,7 @@
 use mathlib.Core.Path.{_≡_}
 use Rattle.propagation.specs.Propagation.{profiles}
 use Rattle.working.specs.Working.{decisionFor}
-use Rattle.working.proofs.Rows.{limits}
-use Rattle.working.proofs.Deciding.{decided-is, refused-is, unsettled-is, fill-asks, filled, worked-is}
+use Rattle.working.proofs.Deciding.{limits, decided-is, refused-is, unsettled-is, fill-asks, filled, worked-is}
 use borrow.Author.Needs.{needs}
 use Rattle.working.proofs.work_accepted.Statement.{statement}
 use Rattle.working.proofs.work_accepted.Tie as tie
