@@ -1,0 +1,31 @@
+-- The discharges stand in front of their array; then each point is filled.
+use Prim.Native.Nat.{_-_}
+use mathlib.Core.Path.{_≡_}
+use lib.ListN.{length, drop, replicate}
+use Rattle.point_filling.proofs.Discharging.{discharge-long, discharging}
+use borrow.Author.Needs.{needs}
+use Rattle.point_filling.proofs.fill.Statement.{statement}
+use Rattle.point_filling.proofs.fill.Tie as tie
+
+abbrev start : tie.After-fill-profiles → tie.Start
+start c = c .before .before .before .before
+
+-- the array is filled whole
+whole : (c : tie.After-fill-profiles) → length (c .fill-profiles .last .1 .1 .0) ≡ 720
+whole c = c .fill-profiles .kept .1 .1 .0
+
+part-fill-each-end : tie.Need-part-fill-each-end
+part-fill-each-end c =
+    let f = c .before .before in
+    discharge-long (f .fill-profiles .last .1 .1 .0) (drop (720 - 0) (replicate 720 0)) (whole f)
+
+fill-each-requires : tie.Need-fill-each-requires
+fill-each-requires c κs =
+    let f = c .before .before .before .before in
+    discharging _ _ (whole f) (start f .pre) _ (f .fill-profiles .ensures)
+
+pub fill-spec : {M : Type 1} → statement M
+fill-spec =
+    tie.close
+    (tie.spec (λ c κs. search needs) (λ c. search needs) (λ c. search needs) (λ c. search needs) (λ c κs. search needs) (λ c. search needs)
+    (λ c. search needs) part-fill-each-end fill-each-requires (λ c. search needs) (λ c. search needs))
