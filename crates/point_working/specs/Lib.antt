@@ -1,0 +1,3 @@
+pub mod PointWorking
+pub mod Steps
+pub mod None
