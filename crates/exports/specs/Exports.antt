@@ -10,6 +10,10 @@ use Rattle.accuracy.specs.Accuracy.{Accurate}
 use Rattle.working_outcome.specs.declared.Working.{Working}
 use Rattle.balance_decision.specs.Outcome.{refusalOf, lastSumOf}
 use Rattle.working.specs.Working.{callOf}
+use Rattle.points.specs.declared.Points.{Points}
+use Rattle.point_flows.specs.PointAccuracy.{PointsAccurate}
+use Rattle.point_working.specs.declared.PointWorking.{PointWorking}
+use Rattle.point_working.specs.PointWorking.{pointCallOf}
 use Rattle.discharge.specs.declared.Discharged.{Discharged}
 use Rattle.discharge.specs.declared.Discharged.the-variants.{Refused as RefusedVolumes, Volumes}
 use Rattle.discharge.specs.Discharge.{acceptOf, answerOf, profileAfter, EntriesDischarge}
@@ -19,6 +23,7 @@ use Rattle.archive_format.specs.declared.TitlePart.{TitlePart}
 use Rattle.archive_format.specs.declared.TitlePart.the-variants.{Part, Refused as NoPart}
 use Rattle.archive_format.specs.Archive.{newLength, overwrite}
 use Rattle.exports.specs.declared.WorkAnswer.{WorkAnswer}
+use Rattle.exports.specs.declared.PointWorkAnswer.{PointWorkAnswer}
 use Rattle.exports.specs.declared.VolumesAnswer.{VolumesAnswer}
 use Rattle.exports.specs.declared.ValueAnswer.{ValueAnswer}
 use Rattle.exports.specs.declared.TitleAnswer.{TitleAnswer}
@@ -44,6 +49,17 @@ pub record SegmentWorks (l : List ℕ) (p : Profiles) (r : WorkAnswer) (p′ : P
   pub answer : r ≡ workAnswer (callOf l p .answer)
   pub after : p′ ≡ callOf l p .after
   pub accurate : r .number ≡ 0 → Accurate (segmentOf l) (r .pairs .rows) p′
+
+abbrev pub pointWorkAnswer : PointWorking → PointWorkAnswer
+pointWorkAnswer w = record { work = workAnswer (w .working); blocked = w .blocked }
+
+-- the working with points as called: its answer in numbers, all four profiles, and demand 3 and every point's run of all that it accepts
+pub record SegmentPointWorks (l : List ℕ) (ps : Points) (p : Profiles) (q : List ℕ) (r : PointWorkAnswer) (p′ : Profiles) (q′ : List ℕ) : Type 0 where
+  pub answer : r ≡ pointWorkAnswer (pointCallOf l ps p q .answer)
+  pub after : p′ ≡ pointCallOf l ps p q .after
+  pub passing : q′ ≡ pointCallOf l ps p q .passing
+  pub accurate : r .work .number ≡ 0 → Accurate (segmentOf l) (r .work .pairs .rows) p′
+  pub points : r .work .number ≡ 0 → PointsAccurate (segmentOf l) ps q′
 
 abbrev pub volumesAnswer : Discharged → VolumesAnswer
 volumesAnswer (RefusedVolumes n) = record { number = n; left = 0; through = 0; right = 0 }

@@ -1,7 +1,7 @@
 -- What the answers in numbers mean: 0 is an accepted working, the part told of an archive is the title.
-use Prim.Native.Nat.{ℕ, _<_}
+use Prim.Native.Nat.{ℕ}
 use native.Mathlib.Omega.{arith}
-use mathlib.Core.Path.{_≡_, refl, sym, ap, subst, _∙_}
+use mathlib.Core.Path.{_≡_, refl, sym, ap, _∙_}
 use mathlib.Core.List.{List}
 use lib.Ieee.{Float}
 use lib.ListN.{length, take, drop}
@@ -9,14 +9,18 @@ use Rattle.refusal.specs.Refusal.{Or, refused, ok}
 use Rattle.balance_flows.specs.Flows.{zero64}
 use Rattle.segment.specs.declared.Segment.{Segment}
 use Rattle.segment.specs.Segment.{segmentOf}
+use Rattle.balance_decision.specs.declared.Outcome.{Outcome}
 use Rattle.balance_decision.specs.declared.Outcome.the-variants.{Worked}
 use Rattle.balance_decision.specs.Outcome.{refusalOf, zero-is-worked}
 use Rattle.balance_decision.specs.Meaning.{from-cells}
 use Rattle.metering.specs.Metering.{dischargeVolumes}
 use Rattle.propagation.specs.Propagation.{Profiles}
-use Rattle.accuracy.specs.Accuracy.{Accurate}
 use Rattle.working_outcome.specs.declared.Working.{Working}
 use Rattle.working.specs.Working.{Called, Works, acceptOf, callOf, byRecord, byDecision, decided-outcome, decisionFor}
+use Rattle.points.specs.declared.Points.{Points}
+use Rattle.point_working.specs.declared.PointWorking.{PointWorking}
+use Rattle.point_working.specs.PointWorking as pointed
+use Rattle.point_working.specs.PointWorking.{PointCalled, PointWorks, pointCallOf}
 use Rattle.discharge.specs.declared.Discharged.{Discharged}
 use Rattle.discharge.specs.declared.Discharged.the-variants.{Refused as RefusedVolumes, Volumes}
 use Rattle.discharge.specs.Discharge.{EntriesDischarge, Calls}
@@ -26,45 +30,69 @@ use Rattle.archive_format.specs.declared.TitlePart.{TitlePart}
 use Rattle.archive_format.specs.declared.TitlePart.the-variants.{Part, Refused as NoPart}
 use Rattle.archive_format.specs.Archive.{firstEdition, bytesAt, titlePartOf, titleOf, Writes}
 use Rattle.exports.specs.declared.WorkAnswer.{WorkAnswer}
+use Rattle.exports.specs.declared.PointWorkAnswer.{PointWorkAnswer}
 use Rattle.exports.specs.declared.VolumesAnswer.{VolumesAnswer}
 use Rattle.exports.specs.declared.ValueAnswer.{ValueAnswer}
 use Rattle.exports.specs.declared.TitleAnswer.{TitleAnswer}
-use Rattle.exports.specs.Exports.{SegmentWorks, workAnswer, SegmentDischarges, volumesAnswer, valueAnswer, ArchiveWrites, titleAnswer}
+use Rattle.exports.specs.Exports.{SegmentWorks, workAnswer, SegmentPointWorks, pointWorkAnswer, SegmentDischarges, volumesAnswer}
+use Rattle.exports.specs.Exports.{valueAnswer, ArchiveWrites, titleAnswer}
 
 -- what has the number 0 is worked
-pub record WorkedAt (c : Called) : Type 0 where
+pub record WorkedAt (o : Outcome) : Type 0 where
   pub sum : Float
-  pub is : c .answer .outcome ≡ Worked sum
+  pub is : o ≡ Worked sum
 
-decided-worked : (s : Segment) (p : Profiles) → refusalOf (byDecision s (decisionFor s) p .answer .outcome) ≡ 0 → WorkedAt (byDecision s (decisionFor s) p)
+decided-worked : (s : Segment) (p : Profiles) → let o = byDecision s (decisionFor s) p .answer .outcome in refusalOf o ≡ 0 → WorkedAt o
 unfolding decisionFor
 decided-worked s p e =
     let o = decided-outcome s (decisionFor s) p in
     let f = from-cells (dischargeVolumes s) (s .exits) (s .seeds) (sym (ap refusalOf o) ∙ e) in
     record { sum = f .sum; is = o ∙ f .worked }
 
-pub call-worked : (l : List ℕ) (p : Profiles) → refusalOf (callOf l p .answer .outcome) ≡ 0 → WorkedAt (callOf l p)
+record-worked : (x : Or Segment) (p : Profiles) → let o = byRecord x p .answer .outcome in refusalOf o ≡ 0 → WorkedAt o
+record-worked (refused n) p e = record { sum = zero64; is = zero-is-worked n zero64 e }
+record-worked (ok s) p e = decided-worked s p e
+
+pub call-worked : (l : List ℕ) (p : Profiles) → let o = callOf l p .answer .outcome in refusalOf o ≡ 0 → WorkedAt o
 unfolding callOf
-call-worked l p = go (acceptOf l (length (p .output)) (length (p .first)) (length (p .second)))
-  where
-    go : (x : Or Segment) → refusalOf (byRecord x p .answer .outcome) ≡ 0 → WorkedAt (byRecord x p)
-    go (refused n) e = record { sum = zero64; is = zero-is-worked n zero64 e }
-    go (ok s) e = decided-worked s p e
+call-worked l p = record-worked (acceptOf l (length (p .output)) (length (p .first)) (length (p .second))) p
+
+-- the working that a call with points answers is that of the record
+working-is : (x : Or Segment) (ps : Points) (p : Profiles) (q : List ℕ) → pointed.byRecord x ps p q .answer .working ≡ byRecord x p .answer
+working-is (refused n) ps p q = refl
+working-is (ok s) ps p q = refl
+
+pub point-call-worked : (l : List ℕ) (ps : Points) (p : Profiles) (q : List ℕ) →
+    let o = pointCallOf l ps p q .answer .working .outcome in refusalOf o ≡ 0 → WorkedAt o
+unfolding pointCallOf
+point-call-worked l ps p q =
+    let x = pointed.acceptOf l ps (length (p .output)) (length q) (length (p .first)) (length (p .second)) in
+    rw (working-is x ps p q) (record-worked x p)
 
 -- the call's contract, in numbers
 pub segment-works : (l : List ℕ) (p : Profiles) (w : Working) (p′ : Profiles) (r : WorkAnswer) → Works l p w p′ → r ≡ workAnswer w → SegmentWorks l p r p′
 segment-works l p w p′ r works e =
     let same : w ≡ callOf l p .answer = ap (λ (c : Called). c .answer) (works .is) in
+    let worked : r .number ≡ 0 → WorkedAt (w .outcome) = rw (e, same) (call-worked l p) in
     record {
       answer = e ∙ ap workAnswer same;
       after = ap (λ (c : Called). c .after) (works .is);
-      accurate = λ z. near (call-worked l p (sym (ap (λ (v : Working). refusalOf (v .outcome)) same) ∙ sym (ap (λ (t : WorkAnswer). t .number) e) ∙ z));
+      accurate = λ z. let a = worked z in rw e (works .accurate (a .sum) (a .is));
     }
-  where
-    near : WorkedAt (callOf l p) → Accurate (segmentOf l) (r .pairs .rows) p′
-    near a =
-        let d = works .accurate (a .sum) (ap (λ (c : Called). c .answer .outcome) (works .is) ∙ a .is) in
-        subst (λ (rows : List (List ℕ)). Accurate (segmentOf l) rows p′) (sym (ap (λ (t : WorkAnswer). t .pairs .rows) e)) d
+
+-- the call's with points, in numbers
+pub segment-point-works : (l : List ℕ) (ps : Points) (p : Profiles) (q : List ℕ) (w : PointWorking) (p′ : Profiles) (q′ : List ℕ) (r : PointWorkAnswer) →
+    PointWorks l ps p q w p′ q′ → r ≡ pointWorkAnswer w → SegmentPointWorks l ps p q r p′ q′
+segment-point-works l ps p q w p′ q′ r works e =
+    let same : w ≡ pointCallOf l ps p q .answer = ap (λ (c : PointCalled). c .answer) (works .is) in
+    let worked : r .work .number ≡ 0 → WorkedAt (w .working .outcome) = rw (e, same) (point-call-worked l ps p q) in
+    record {
+      answer = e ∙ ap pointWorkAnswer same;
+      after = ap (λ (c : PointCalled). c .after) (works .is);
+      passing = ap (λ (c : PointCalled). c .passing) (works .is);
+      accurate = λ z. let a = worked z in rw e (works .accurate (a .sum) (a .is));
+      points = λ z. let a = worked z in works .points (a .sum) (a .is);
+    }
 
 -- the discharge call's, in numbers
 pub segment-discharges : (l p : List ℕ) (d : Discharged) (p′ : List ℕ) (r : VolumesAnswer) → Calls l p d p′ → r ≡ volumesAnswer d → SegmentDischarges l p r p′

@@ -8,12 +8,15 @@ ghost use lib.ListN.{length};
 ghost use Rattle.propagation.specs.Propagation.{lent};
 ghost use Rattle.archive_format.specs.Archive.{addOf, answerOf, countOf, findOf, placeOf, firstEdition, titlePartOf};
 ghost use Rattle.report.specs.Report.{reportOf};
-ghost use Rattle.exports.specs.Exports.{SegmentWorks, workAnswer, SegmentDischarges, volumesAnswer, valueAnswer, ArchiveWrites, titleAnswer};
+ghost use Rattle.exports.specs.Exports.{SegmentWorks, workAnswer, SegmentPointWorks, pointWorkAnswer, SegmentDischarges, volumesAnswer};
+ghost use Rattle.exports.specs.Exports.{valueAnswer, ArchiveWrites, titleAnswer};
 use archive_format::Answer;
 use archive_format::TitlePart;
 use discharge::Discharged;
 use exit_figures::ExitFigures;
 use pair_flows::PairFlows;
+use point_working::PointWorking;
+use points::Points;
 use working_outcome::Working;
 
 // A working's answer: 0 and 15 tell the last sum.
@@ -29,6 +32,13 @@ pub struct WorkAnswer {
     pub through: ExitFigures,
     pub right: ExitFigures,
     pub access: u64,
+}
+
+// A working with points: the working's answer, and the blocked steps at each point.
+#[repr(C)]
+pub struct PointWorkAnswer {
+    pub work: WorkAnswer,
+    pub blocked: [u32; points::POINT_ROOM],
 }
 
 // The three entries' discharge volumes in veh/h.
@@ -74,6 +84,16 @@ fn work_answer(w: Working) -> WorkAnswer
         through,
         right,
         access: w.access,
+    }
+}
+
+fn point_work_answer(w: PointWorking) -> PointWorkAnswer
+    ensures { λ r. ⌜ r ≡ pointWorkAnswer w ⌝ }
+{
+    let blocked = w.blocked;
+    PointWorkAnswer {
+        work: work_answer(w.working),
+        blocked,
     }
 }
 
@@ -127,6 +147,22 @@ pub extern "C" fn segment_work(
         r (lent (output .exit) (first .exit) (second .exit)) ⌝ }
 {
     work_answer(working::work(bytes, output, first, second))
+}
+
+// `point_working::work_points`; the points pass by value.
+#[no_mangle]
+pub extern "C" fn segment_work_points(
+    bytes: &[u8],
+    points: Points,
+    output: &mut [u32],
+    passing: &mut [u32],
+    first: &mut [u32],
+    second: &mut [u32],
+) -> PointWorkAnswer
+    ensures { λ r. ⌜ SegmentPointWorks (now (bytes .entry)) points (lent (output .entry) (first .entry) (second .entry)) (now (passing .entry))
+        r (lent (output .exit) (first .exit) (second .exit)) (now (passing .exit)) ⌝ }
+{
+    point_work_answer(point_working::work_points(bytes, points, output, passing, first, second))
 }
 
 // `discharge::discharge`.
