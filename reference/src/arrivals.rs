@@ -45,11 +45,16 @@ pub fn add_pair(arrivals: &[u32], flow: u32, volume: u32, shift: u32, run: &mut 
         return;
     }
     let mut share = PairShare::new(flow, volume);
-    let first = landing(Step(1), shift, run.len() as u32);
-    let (early, late) = run.split_at_mut(first.index());
-    for (place, &arrival) in late.iter_mut().chain(early).zip(arrivals) {
+    for (place, &arrival) in landed(run, shift).zip(arrivals) {
         *place += share.take(arrival);
     }
+}
+
+/// The places of a run in discharge order, landed `shift` steps later.
+pub fn landed(run: &mut [u32], shift: u32) -> impl Iterator<Item = &mut u32> {
+    let first = landing(Step(1), shift, run.len() as u32);
+    let (early, late) = run.split_at_mut(first.index());
+    late.iter_mut().chain(early)
 }
 
 /// Where a discharge step lands, `shift` steps later.

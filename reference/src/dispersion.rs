@@ -32,6 +32,17 @@ impl Link {
         }
     }
 
+    /// The link after all cycles but the last, which is the reported one.
+    pub fn before_last(discharge: &[u32], running_time: u32) -> Link {
+        let mut link = Link::empty(running_time);
+        for _ in 1..CYCLES {
+            for &leaving in discharge {
+                link.step(leaving);
+            }
+        }
+        link
+    }
+
     /// One step: takes a discharge, gives the arrival.
     pub fn step(&mut self, discharge: u32) -> u32 {
         let kept = self.denominator - NUMERATOR;

@@ -1,4 +1,4 @@
-//! The exact working, and demand 3 of a working's result.
+//! The exact working, demand 3 of a working's result, and the distance of its points.
 
 use crate::arrivals::{total, PairShare};
 use crate::discharge::{fill_discharge, UNITS};
@@ -6,11 +6,14 @@ use crate::dispersion::{arrival_time, denominator, Link, CYCLES, NUMERATOR};
 use crate::greens::Step;
 use crate::metering::discharge_volumes;
 use crate::natural::Natural;
+use crate::points::Point;
 use crate::record::{Record, ACCESS, RIGHT};
 use crate::working::Working;
 
 /// An exit's flow differs from the exact one by less than this.
 pub const EXIT_DISTANCE: u64 = 6;
+/// A point's flow differs from the exact one by less than this.
+pub const POINT_DISTANCE: u64 = 3;
 
 /// A worked record with its profiles after the call, cut or not.
 pub struct Worked<'a> {
@@ -105,18 +108,38 @@ impl ExactArrivals {
 
 /// Part 1: each exit's flow in each step is within six of the exact one.
 fn check_exit_flows(worked: &Worked, platoons: &[Platoon]) -> Result<(), String> {
-    let cycle = worked.record.cycle;
-    let shift = arrival_time(worked.record.running_time);
-    let mut exact = ExactArrivals::empty(worked.record.running_time, platoons.len());
+    let running_time = worked.record.running_time;
+    each_landing(platoons, running_time, |exact, landed| {
+        check_step(worked, platoons, exact, landed)
+    })
+}
+
+/// The exact arrivals of each step of the reported cycle, and the step where they land.
+fn each_landing(
+    platoons: &[Platoon],
+    running_time: u32,
+    mut check: impl FnMut(&ExactArrivals, Step) -> Result<(), String>,
+) -> Result<(), String> {
+    let cycle = platoons[RIGHT].leaving.len() as u32;
+    let shift = arrival_time(running_time);
+    let mut exact = ExactArrivals::empty(running_time, platoons.len());
     for k in 1..=CYCLES as u32 * cycle {
         let step = Step((k - 1) % cycle + 1);
         exact.step(platoons, step);
         if k > (CYCLES as u32 - 1) * cycle {
             let landed = Step((step.0 + shift - 1) % cycle + 1);
-            check_step(worked, platoons, &exact, landed)?;
+            check(&exact, landed)?;
         }
     }
     Ok(())
+}
+
+/// A flow that was found differs from flow/over by less than `distance`.
+fn within(distance: u64, found: u32, flow: &Natural, over: &Natural) -> bool {
+    let found = u64::from(found);
+    let low = over.times(found);
+    let high = over.times(found + distance);
+    *flow < high && low < flow.plus(&over.times(distance))
 }
 
 /// Part 1 at one step, over the common denominator of the exit's flows.
@@ -141,10 +164,7 @@ fn check_step(
             sum.plus(&over(i, exact.numerators[i].times(share(i))))
         });
         let run = &worked.output[j * worked.record.cycle as usize..];
-        let found = u64::from(run[landed.index()]);
-        let low = common.times(found);
-        let high = common.times(found + EXIT_DISTANCE);
-        if flow >= high || flow.plus(&common.times(EXIT_DISTANCE)) <= low {
+        if !within(EXIT_DISTANCE, run[landed.index()], &flow, &common) {
             return Err(format!("exit {j} is six or more off in step {}", landed.0));
         }
     }
@@ -197,4 +217,26 @@ fn check_exit_pairs(worked: &Worked, platoons: &[Platoon], j: usize) -> Result<(
 fn pair_arrivals(reported: &[u32], flow: u32, whole: u64) -> u64 {
     let mut share = PairShare::new(flow, (whole / u64::from(UNITS)) as u32);
     reported.iter().map(|&a| u64::from(share.take(a))).sum()
+}
+
+/// The flow past each point in each step is within three of the exact one; the text names the first that is not.
+pub fn check_points(record: &Record, points: &[Point], passing: &[u32]) -> Result<(), String> {
+    let platoons = platoons(record);
+    let access = u64::from(UNITS) * u64::from(record.access_volume);
+    let cycle = record.cycle as usize;
+    for (n, point) in points.iter().enumerate() {
+        let run = &passing[n * cycle..(n + 1) * cycle];
+        each_landing(&platoons, point.running, |exact, landed| {
+            let start = exact.power.times(access);
+            let flow = exact.numerators.iter().fold(start, |sum, x| sum.plus(x));
+            if !within(POINT_DISTANCE, run[landed.index()], &flow, &exact.power) {
+                return Err(format!(
+                    "point {n} is three or more off in step {}",
+                    landed.0
+                ));
+            }
+            Ok(())
+        })?;
+    }
+    Ok(())
 }

@@ -1,4 +1,4 @@
-//! Reference implementation of paper 01, written from the paper alone.
+//! Reference implementation of paper 01 and of the points of paper 02, written from the papers alone.
 
 pub mod archive;
 pub mod arrivals;
@@ -9,6 +9,7 @@ pub mod exact;
 pub mod greens;
 pub mod metering;
 pub mod natural;
+pub mod points;
 pub mod random;
 pub mod record;
 pub mod refusal;

@@ -2,6 +2,7 @@
 
 use crate::greens::{Green, Post};
 use crate::refusal::{self, Refusal};
+use std::ops::RangeInclusive;
 
 pub const RECORD_BYTES: usize = 68;
 
@@ -22,6 +23,10 @@ pub const SEEDS_AT: usize = 52;
 
 pub const CYCLE_LEAST: u32 = 30;
 pub const CYCLE_MOST: u32 = 240;
+/// Running times and headways in milliseconds.
+pub const RUNNING_TIME_LEAST: u32 = 1000;
+pub const RUNNING_TIME_MOST: u32 = 300_000;
+pub const HEADWAYS: RangeInclusive<u32> = 1000..=10000;
 
 /// Movements in the paper's order, of entries and of exits.
 pub const LEFT: usize = 0;
@@ -121,10 +126,10 @@ fn check(record: &Record) -> Result<(), Refusal> {
     if !(CYCLE_LEAST..=CYCLE_MOST).contains(&record.cycle) {
         return Err(refusal::CYCLE);
     }
-    if !(1000..=300000).contains(&record.running_time) {
+    if !(RUNNING_TIME_LEAST..=RUNNING_TIME_MOST).contains(&record.running_time) {
         return Err(refusal::RUNNING_TIME);
     }
-    if !(1000..=10000).contains(&record.headway) {
+    if !HEADWAYS.contains(&record.headway) {
         return Err(refusal::HEADWAY);
     }
     if !volumes_in_range(record) {

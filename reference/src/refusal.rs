@@ -35,3 +35,7 @@ pub const PROFILE: Refusal = 16;
 pub const BUFFER: Refusal = 17;
 /// The archive already holds 512 records.
 pub const FULL: Refusal = 18;
+/// More than eight points.
+pub const POINT_COUNT: Refusal = 19;
+/// A given point's running time or headway.
+pub const POINT: Refusal = 20;

@@ -1,11 +1,12 @@
-//! Sample records for tests and vectors.
+//! Sample records and points for tests and vectors.
 
 use crate::metering::discharge_volumes;
+use crate::points::{Point, Points, POINTS_MOST};
 use crate::random::Random;
 use crate::record::{
     decode, Seeds, ACCESS_AT, CYCLE_AT, DOWNSTREAM_AT, ENTRIES_AT, ENTRY_BYTES, EXITS_AT, GREEN_IN,
-    HEADWAY_AT, NUMBER_AT, ON_GREEN_IN, RECORD_BYTES, RUNNING_TIME_AT, SATURATION_IN, SEEDS_AT,
-    VOLUME_IN,
+    HEADWAYS, HEADWAY_AT, NUMBER_AT, ON_GREEN_IN, RECORD_BYTES, RUNNING_TIME_AT,
+    RUNNING_TIME_LEAST, SATURATION_IN, SEEDS_AT, VOLUME_IN,
 };
 
 /// The bytes of a record.
@@ -150,4 +151,47 @@ fn random_exits(random: &mut Random, bytes: &RecordBytes) -> [u32; 4] {
         *exit = (likely / 100 * random.between(70, 140) / 100).min(12000);
     }
     exits
+}
+
+/// Any number of points, eight and too many among them; in one of four a place, given or not, is out of range.
+pub fn random_points(random: &mut Random, running_time: u32) -> Points {
+    let count = match random.below(8) {
+        0 => 0,
+        1 => 1,
+        2 | 3 => 8,
+        4 => random.pick(&[9, 9, 10, 255, 256, 65536, u32::MAX]),
+        _ => random.between(2, 7),
+    };
+    let mut points = good_points(random, count, running_time);
+    if random.one_in(4) {
+        let place = random.below(POINTS_MOST as u32) as usize;
+        points.at[place] = bad_point(random, points.at[place], running_time);
+    }
+    points
+}
+
+/// Points that a record of this running time takes, all places filled; in one of six with one running time.
+pub fn good_points(random: &mut Random, count: u32, running_time: u32) -> Points {
+    let (least, most) = (RUNNING_TIME_LEAST, running_time.max(RUNNING_TIME_LEAST));
+    let mut at = [(); POINTS_MOST].map(|_| Point {
+        running: random.with_ends(least, most),
+        headway: random.with_ends(*HEADWAYS.start(), *HEADWAYS.end()),
+    });
+    if random.one_in(6) {
+        let running = at[0].running;
+        at = at.map(|point| Point { running, ..point });
+    }
+    Points { count, at }
+}
+
+/// The running time, the headway or both out of range.
+fn bad_point(random: &mut Random, point: Point, running_time: u32) -> Point {
+    let past = running_time.saturating_add(1);
+    let running = random.pick(&[0, 999, past, past, u32::MAX]);
+    let headway = random.pick(&[0, 999, 10001, 65536 + 4100, u32::MAX]);
+    match random.below(3) {
+        0 => Point { running, ..point },
+        1 => Point { headway, ..point },
+        _ => Point { running, headway },
+    }
 }

@@ -38,14 +38,29 @@ impl From<Refusal> for Refused {
 }
 
 /// Everything decided before a profile is written.
-struct Decision {
-    volumes: [u32; 4],
+pub(crate) struct Decision {
+    pub(crate) volumes: [u32; 4],
     rounds: u32,
     last_sum: f64,
     flows: PairFlows,
 }
 
-fn decide(record: &Record) -> Result<Decision, Refused> {
+/// Refusal 16 of the profiles that every working is lent.
+pub(crate) fn check_lengths(
+    record: &Record,
+    output: &[u32],
+    first: &[u32],
+    second: &[u32],
+) -> Result<(), Refusal> {
+    let cycle = record.cycle as usize;
+    if output.len() < 4 * cycle || first.len() < cycle || second.len() < cycle {
+        return Err(refusal::PROFILE);
+    }
+    Ok(())
+}
+
+/// Refusals 13 to 15, or what is to be written.
+pub(crate) fn decide(record: &Record) -> Result<Decision, Refused> {
     let volumes = discharge_volumes(record);
     check_volumes(&volumes, &record.exits, &record.seeds)?;
     let balanced = balance(&volumes, &record.exits, &record.seeds, ROUND_LIMIT);
@@ -64,12 +79,14 @@ fn decide(record: &Record) -> Result<Decision, Refused> {
 }
 
 /// Fills the runs of the output, exits in order; all three profiles cut to size.
+/// Each entry's discharge is made once and shown to `see_discharge`.
 fn fill(
     record: &Record,
     decision: &Decision,
     output: &mut [u32],
     first: &mut [u32],
     second: &mut [u32],
+    mut see_discharge: impl FnMut(&[u32]),
 ) {
     let cycle = record.cycle as usize;
     let shift = arrival_time(record.running_time);
@@ -78,6 +95,7 @@ fn fill(
     let leaving = &mut leaving[..cycle];
     for (i, entry) in record.entries.iter().enumerate() {
         fill_discharge(entry, leaving);
+        see_discharge(leaving);
         let arrivals = disperse(leaving, record.running_time, first, second);
         let (flows, volume) = (&decision.flows[i], decision.volumes[i]);
         add_entry(arrivals, flows, volume, shift, output);
@@ -106,20 +124,25 @@ pub fn work(
     second: &mut [u32],
 ) -> Result<Working, Refused> {
     let record = decode(bytes)?;
-    let cycle = record.cycle as usize;
-    if output.len() < 4 * cycle || first.len() < cycle || second.len() < cycle {
-        return Err(refusal::PROFILE.into());
-    }
+    check_lengths(&record, output, first, second)?;
     let decision = decide(&record)?;
+    Ok(write(&record, &decision, output, first, second, |_| ()))
+}
+
+/// Writes what was decided and gives the figures; `see_discharge` is shown each entry's discharge in turn.
+pub(crate) fn write(
+    record: &Record,
+    decision: &Decision,
+    output: &mut [u32],
+    first: &mut [u32],
+    second: &mut [u32],
+    see_discharge: impl FnMut(&[u32]),
+) -> Working {
+    let cycle = record.cycle as usize;
     let output = &mut output[..4 * cycle];
-    fill(
-        &record,
-        &decision,
-        output,
-        &mut first[..cycle],
-        &mut second[..cycle],
-    );
-    Ok(figures(&record, &decision, output))
+    let (first, second) = (&mut first[..cycle], &mut second[..cycle]);
+    fill(record, decision, output, first, second, see_discharge);
+    figures(record, decision, output)
 }
 
 fn figures(record: &Record, decision: &Decision, output: &[u32]) -> Working {

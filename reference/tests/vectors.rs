@@ -3,6 +3,7 @@
 use reference::archive;
 use reference::balance::{balance, check_volumes, pair_flows, Four, Outcome, ROUND_LIMIT};
 use reference::discharge::discharge;
+use reference::points::{work_points, Point, Points};
 use reference::record::Seeds;
 use reference::vectors::{all, buffer_before, profile_before};
 use reference::working::{work, Refused, Working};
@@ -140,6 +141,30 @@ fn working_agrees(body: &mut Reader) -> bool {
             .all(|profile| body.words(profile.len()) == *profile)
 }
 
+fn points_agree(body: &mut Reader) -> bool {
+    let length = body.number(2) as usize;
+    let record = body.bytes(length);
+    let points = read_points(body);
+    let mut profiles = [3_000_000_000, 3_300_000_000, 3_100_000_000, 3_200_000_000]
+        .map(|start| profile_before(start, body.count()));
+    let [output, passing, first, second] = &mut profiles;
+    let result = work_points(record, &points, output, passing, first, second);
+    body.word() == result.err().map_or(0, |refused| refused.number)
+        && body.words(8) == result.map_or([0; 8], |worked| worked.blocked)
+        && profiles
+            .iter()
+            .all(|profile| body.words(profile.len()) == *profile)
+}
+
+fn read_points(body: &mut Reader) -> Points {
+    let count = body.word();
+    let at = [(); 8].map(|_| Point {
+        running: body.word(),
+        headway: body.word(),
+    });
+    Points { count, at }
+}
+
 fn refused_numbers(refused: &Refused) -> Vec<u64> {
     let mut numbers = vec![0; 31];
     numbers[0] = u64::from(refused.number);
@@ -183,6 +208,7 @@ fn only_the_last_case_differs() {
         archive_agrees,
         balance_agrees,
         working_agrees,
+        points_agree,
     ];
     for ((name, file), agrees) in all().iter().zip(agrees) {
         let last = file.len() - 1;
@@ -194,7 +220,7 @@ fn only_the_last_case_differs() {
 
 #[test]
 fn the_same_each_time_and_small() {
-    let most = [900_000, 1_500_000, 400_000, 3_000_000];
+    let most = [900_000, 1_500_000, 400_000, 3_000_000, 1_200_000];
     for (((name, one), (_, two)), most) in all().iter().zip(&all()).zip(most) {
         let bytes = one.bytes();
         assert!(bytes == two.bytes() && bytes.len() <= most, "{name}");
@@ -203,7 +229,7 @@ fn the_same_each_time_and_small() {
 
 #[test]
 fn every_refusal_is_met() {
-    let labels: [&[&str]; 4] = [
+    let labels: [&[&str]; 5] = [
         &["0", "6", "7", "8", "9", "10", "11", "12", "16"],
         &[
             "read 0", "read 1", "read 2", "read 3", "read 4", "read 5", "find 0", "find 1",
@@ -213,6 +239,9 @@ fn every_refusal_is_met() {
         &["0", "13", "14", "15"],
         &[
             "0", "6", "7", "8", "9", "10", "11", "12", "13", "14", "15", "16",
+        ],
+        &[
+            "0", "6", "7", "8", "9", "10", "11", "12", "13", "14", "15", "16", "19", "20",
         ],
     ];
     for ((name, file), labels) in all().iter().zip(labels) {

@@ -6,6 +6,7 @@ pub mod balance_cases;
 pub mod discharge;
 pub mod faults;
 pub mod orders;
+pub mod points;
 pub mod range_ends;
 pub mod working;
 
@@ -15,6 +16,7 @@ use std::collections::BTreeMap;
 pub const OUTPUT_BEFORE: u32 = 3_000_000_000;
 pub const FIRST_BEFORE: u32 = 3_100_000_000;
 pub const SECOND_BEFORE: u32 = 3_200_000_000;
+pub const PASSING_BEFORE: u32 = 3_300_000_000;
 
 pub fn profile_before(start: u32, length: usize) -> Vec<u32> {
     (start..).take(length).collect()
@@ -112,12 +114,13 @@ impl File {
     }
 }
 
-/// The four files with the names of their directories.
-pub fn all() -> [(&'static str, File); 4] {
+/// The five files with the names of their directories.
+pub fn all() -> [(&'static str, File); 5] {
     [
         ("discharge_vectors", discharge::file()),
         ("archive_vectors", archive::file()),
         ("balance_vectors", balance::file()),
         ("working_vectors", working::file()),
+        ("point_vectors", points::file()),
     ]
 }

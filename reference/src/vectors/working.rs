@@ -244,7 +244,7 @@ fn add_extremes(file: &mut File) {
 }
 
 /// A record with the most volume and green, and the same seeds for all pairs.
-fn fullest(cycle: u32, running_time: u32) -> RecordBytes {
+pub(super) fn fullest(cycle: u32, running_time: u32) -> RecordBytes {
     let mut record = quiet(cycle);
     put_u32(&mut record, RUNNING_TIME_AT, running_time);
     put_u16(&mut record, HEADWAY_AT, 10000);
@@ -269,7 +269,7 @@ fn add_idle_entries(file: &mut File) {
 }
 
 /// A busy record where entry `i` is idle if bit `i` of `idle` is set.
-fn with_idle_entries(idle: u32) -> RecordBytes {
+pub(super) fn with_idle_entries(idle: u32) -> RecordBytes {
     let mut record = busy(47);
     for i in (0..3).filter(|i| idle >> i & 1 == 1) {
         put_entry(&mut record, i, [0, 1800, 40, 20, 700]);
@@ -340,7 +340,7 @@ fn add_long(file: &mut File) {
     }
 }
 
-fn long_record(random: &mut Random) -> RecordBytes {
+pub(super) fn long_record(random: &mut Random) -> RecordBytes {
     let mut record = random_record(random, CYCLE_MOST);
     put_u32(&mut record, RUNNING_TIME_AT, 300_000);
     for i in 0..3 {
