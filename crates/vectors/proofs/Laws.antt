@@ -1,17 +1,18 @@
--- The two loops, by what remains of them.
-use Prim.Native.Nat.{ℕ, suc, _+_, _-_, _*_, _≤_, _<_}
+-- The two loops, by what remains of them; a profile against the numbers in front, and what stands after them.
+use Prim.Native.Nat.{ℕ, suc, _+_, _-_, _*_, _/_, _≤_, _<_}
 use native.Mathlib.Omega.{arith}
 use native.Mathlib.Numerals.{add-one}
 use native.Mathlib.Nat.{sub-zero}
-use mathlib.Core.Bool.{Bool, false, _||_, not, or-assoc, or-false}
+use mathlib.Core.Bool.{Bool, true, false, _||_, not, or-assoc, or-false}
 use mathlib.Core.Path.{_≡_, refl, sym, _∙_}
-use mathlib.Core.List.{List, _++_, append-assoc, append-nil}
+use mathlib.Core.List.{List, [], _++_, append-assoc, append-nil}
 use lib.Dec.{eqb}
-use lib.ListN.{length, take, drop, set, getD, length-set, drop-of-length-le}
+use lib.ListN.{length, take, drop, set, getD, length-set, length-drop, drop-of-length-le}
 use lib.Seq.{drop-cons, take-suc-set, take-all}
+use borrow.Author.Tests.{lt-ltb, le-ltb}
 use Rattle.octets.specs.Octets.{word4}
 use Rattle.lists.specs.Lists.{tab}
-use Rattle.vectors.specs.Vectors.{pattern, wordsDiffer}
+use Rattle.vectors.specs.Vectors.{pattern, profileDiffers, wordsDiffer}
 
 pub record Filling (first : ℕ) (run₀ run : List ℕ) (i : ℕ) : Type 0 where
   pub within : i ≤ length run₀
@@ -58,3 +59,19 @@ module _ {l : List ℕ} {at : ℕ} {run : List ℕ} {differ : Bool} {i : ℕ} (r
   pub comparing-done : length run ≤ i → differ ≡ wordsDiffer l at run
   unfolding wordsDiffer
   comparing-done h = sym (r .same ∙ rw (drop-of-length-le run {i = i} h, or-false))
+
+module _ (l run : List ℕ) where
+  pub too-few : length l / 4 < length run → true ≡ profileDiffers l run
+  unfolding profileDiffers
+  too-few h = rw (lt-ltb (length l) (4 * length run) (omega arith))
+
+  pub enough : length run ≤ length l / 4 → wordsDiffer l 0 run ≡ profileDiffers l run
+  unfolding profileDiffers
+  enough h = rw (le-ltb (length l) (4 * length run) (omega arith))
+
+module _ (l : List ℕ) (n : ℕ) where
+  pub none-after : length l / 4 < n → [] ≡ drop (4 * n) l
+  none-after h = sym (drop-of-length-le l {i = 4 * n} (omega arith))
+
+  pub all-after : take (length l - 4 * n) (drop (4 * n) l) ≡ drop (4 * n) l
+  all-after = take-all (length l - 4 * n) (drop (4 * n) l) (omega (arith, length-drop (4 * n) l))

@@ -1,10 +1,10 @@
 -- What the test programs compare.
-use Prim.Native.Nat.{ℕ, _+_}
+use Prim.Native.Nat.{ℕ, _+_, _*_}
 use mathlib.Core.Bool.{Bool, false, _||_, not}
 use mathlib.Core.List.{List, [], _∷_, _++_}
-use lib.Dec.{eqb}
+use lib.Dec.{eqb, ltb}
 use lib.Ieee.{Float, binary64, toBits}
-use lib.ListN.{getD}
+use lib.ListN.{length, getD}
 use Rattle.octets.specs.Octets.{word4, word8}
 use Rattle.lists.specs.Lists.{tab}
 use Rattle.text.specs.Text.{decimal, field}
@@ -18,6 +18,10 @@ pattern first n = tab (λ i. first + i) 0 n
 unfoldable pub wordsDiffer : List ℕ → ℕ → List ℕ → Bool
 wordsDiffer l at [] = false
 wordsDiffer l at (x ∷ xs) = not (eqb (word4 l at) x) || wordsDiffer l (at + 4) xs
+
+-- some number of a profile is not, or too few bytes stand there
+unfoldable pub profileDiffers : List ℕ → List ℕ → Bool
+profileDiffers l run = ltb (length l) (4 * length run) || wordsDiffer l 0 run
 
 -- some of the sixteen pair flows is not, row after row
 unfoldable pub rowsDiffer : List ℕ → ℕ → List (List ℕ) → Bool

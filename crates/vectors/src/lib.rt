@@ -2,12 +2,21 @@
 ghost use mathlib.Core.Path.{_≡_};
 ghost use Prim.Native.Nat.{_+_, _-_, _*_, _≤_, _<_, _^_};
 ghost use lib.Ieee.{binary64, toBits};
-ghost use lib.ListN.{length};
+ghost use lib.ListN.{length, drop};
 ghost use Rattle.octets.specs.Octets.{word4};
 ghost use Rattle.buffer.specs.Buffer.{Wrote};
-ghost use Rattle.vectors.specs.Vectors.{closingLine, floatDiffers, pattern, rowsDiffer, wordsDiffer};
+ghost use Rattle.vectors.specs.Vectors.{closingLine, floatDiffers, pattern, profileDiffers, rowsDiffer, wordsDiffer};
 use libc::STDIN_FILENO;
 use libc::STDOUT_FILENO;
+
+// Each lent profile holds the numbers from its own on.
+pub const OUTPUT_FROM: u32 = 3000000000;
+
+pub const FIRST_FROM: u32 = 3100000000;
+
+pub const SECOND_FROM: u32 = 3200000000;
+
+pub const PASSING_FROM: u32 = 3300000000;
 
 // The next four bytes of the input, to the front of a lent buffer, as a number.
 pub fn read_word(word: &mut [u8]) -> u32
@@ -87,6 +96,26 @@ pub fn numbers_differ(expected: &[u8], at: usize, run: &[u32]) -> bool
         i += 1;
     }
     differ
+}
+
+// Whether a profile differs from the numbers in front; too few differ.
+pub fn profile_differs(expected: &[u8], run: &[u32]) -> bool
+    ensures { λ r. ⌜ r ≡ profileDiffers (now (expected .entry)) (now (run .entry)) ⌝ }
+{
+    if expected.len() / 4 < run.len() {
+        return true;
+    }
+    numbers_differ(expected, 0, run)
+}
+
+// What stands after so many numbers.
+pub fn after<'a>(expected: &'a [u8], n: usize) -> &'a [u8]
+    ensures { λ r. ⌜ now r ≡ drop (4 * n) (now (expected .entry)) ⌝ }
+{
+    if expected.len() / 4 < n {
+        return &expected[0..0];
+    }
+    &expected[4 * n..]
 }
 
 fn row_differs(expected: &[u8], at: usize, row: [u32; 4]) -> bool

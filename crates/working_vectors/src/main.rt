@@ -9,13 +9,6 @@ use working_outcome::Working;
 // The longest profile that a case lends.
 const ROOM: usize = 1200;
 
-// Each lent profile holds the numbers from its own on.
-const OUTPUT_FROM: u32 = 3000000000;
-
-const FIRST_FROM: u32 = 3100000000;
-
-const SECOND_FROM: u32 = 3200000000;
-
 // The expected numbers of a case, after its record and the profiles' lengths: number, last sum, platoon arrival time, rounds, pair flows,
 // three exits' figures, access total, blocked steps; then the three profiles.
 fn outcome_differs(expected: &[u8], outcome: Outcome) -> bool
@@ -52,27 +45,11 @@ fn answer_differs(expected: &[u8], answer: Working) -> bool
         | (octets::word4_at(expected, 152) != answer.blocked)
 }
 
-// Every number of a profile, against those in front.
-fn profile_differs(expected: &[u8], run: &[u32]) -> bool {
-    if expected.len() / 4 < run.len() {
-        return true;
-    }
-    vectors::numbers_differ(expected, 0, run)
-}
-
-// What stands after so many numbers.
-fn after<'a>(expected: &'a [u8], n: usize) -> &'a [u8] {
-    if expected.len() / 4 < n {
-        return &expected[0..0];
-    }
-    &expected[4 * n..]
-}
-
 fn profiles_differ(expected: &[u8], output: &[u32], first: &[u32], second: &[u32]) -> bool {
-    let rest = after(expected, output.len());
-    profile_differs(expected, output)
-        | profile_differs(rest, first)
-        | profile_differs(after(rest, first.len()), second)
+    let rest = vectors::after(expected, output.len());
+    vectors::profile_differs(expected, output)
+        | vectors::profile_differs(rest, first)
+        | vectors::profile_differs(vectors::after(rest, first.len()), second)
 }
 
 // The answer, and the three profiles after it.
@@ -93,9 +70,9 @@ fn result_differs(
 fn lend(output: &mut [u32], first: &mut [u32], second: &mut [u32])
     requires { ⌜ (length (now output) ≤ room) × (length (now first) ≤ room) × (length (now second) ≤ room) ⌝ }
 {
-    vectors::fill_pattern(output, OUTPUT_FROM);
-    vectors::fill_pattern(first, FIRST_FROM);
-    vectors::fill_pattern(second, SECOND_FROM);
+    vectors::fill_pattern(output, vectors::OUTPUT_FROM);
+    vectors::fill_pattern(first, vectors::FIRST_FROM);
+    vectors::fill_pattern(second, vectors::SECOND_FROM);
 }
 
 // One call, on profiles lent with patterns.
