@@ -4,6 +4,8 @@ use archive_format::TitlePart;
 use balance_decision::Outcome;
 use discharge::Discharged;
 use libc::STDOUT_FILENO;
+use points::Point;
+use points::Points;
 use validation::Checked;
 
 // The paper's record 1: cycle 60, running time 40000 ms, headway 4100 ms, 360 veh/h in by access and out through.
@@ -20,6 +22,19 @@ fn record() -> [u8; 68] {
     r[40] = 104;
     r[41] = 1;
     r[49] = 30;
+    r
+}
+
+// The same street with 900 veh/h on the through entry, half of them in its green of 30 steps.
+fn busy() -> [u8; 68] {
+    let mut r = record();
+    r[20] = 132;
+    r[21] = 3;
+    r[22] = 8;
+    r[23] = 7;
+    r[25] = 30;
+    r[26] = 244;
+    r[27] = 1;
     r
 }
 
@@ -115,10 +130,57 @@ fn work(record: &[u8]) {
     }
 }
 
+// 10 and 25 seconds from the upstream signal; places beyond the count are not looked at.
+fn two_points() -> Points {
+    let mut at = [Point {
+        running: 0,
+        headway: 0,
+    }; points::POINT_ROOM];
+    at[0] = Point {
+        running: 10000,
+        headway: 4100,
+    };
+    at[1] = Point {
+        running: 25000,
+        headway: 4100,
+    };
+    Points { count: 2, at }
+}
+
+fn tell_blocked(blocked: [u32; points::POINT_ROOM]) {
+    say(b"blocked at the first point ", blocked[0] as u64);
+    say(b"blocked at the second ", blocked[1] as u64);
+}
+
+fn work_points(record: &[u8]) {
+    let mut output = [0u32; limits::OUTPUT_ROOM];
+    let mut passing = [0u32; 2 * limits::CYCLE_ROOM];
+    let mut first = [0u32; limits::CYCLE_ROOM];
+    let mut second = [0u32; limits::CYCLE_ROOM];
+    let w = point_working::work_points(
+        record,
+        two_points(),
+        &mut output,
+        &mut passing,
+        &mut first,
+        &mut second,
+    );
+    let working = w.working;
+    let outcome = working.outcome;
+    let blocked = w.blocked;
+    match outcome {
+        Outcome::Worked(_) => tell_blocked(blocked),
+        Outcome::Refused(n) => say(b"refused ", n as u64),
+        Outcome::Unsettled(_) => say(b"refused ", 15),
+    }
+}
+
 fn main() {
     let r = record();
     check(&r);
     file(&r);
     discharge_of(&r);
     work(&r);
+    let b = busy();
+    work_points(&b);
 }
