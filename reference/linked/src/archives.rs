@@ -9,7 +9,8 @@ use reference::samples::{busy, put_u32, random_record};
 use reference::vectors::archive::write;
 use reference::vectors::buffer_before;
 
-use crate::calls::{self, TitleAnswer, ValueAnswer};
+use linked::calls::{self, TitleAnswer, ValueAnswer};
+
 use crate::same::{same, same_list, Same, Tally};
 
 type Bytes = [u8; RECORD_BYTES];

@@ -3,6 +3,8 @@
 
 use std::ptr::{null, null_mut};
 
+use reference::points;
+
 #[repr(C)]
 #[derive(Clone, Copy)]
 pub struct ExitFigures {
@@ -24,6 +26,41 @@ pub struct WorkAnswer {
     pub through: ExitFigures,
     pub right: ExitFigures,
     pub access: u64,
+}
+
+/// Running time and headway, milliseconds.
+#[repr(C)]
+#[derive(Clone, Copy, Default)]
+pub struct Point {
+    pub running: u32,
+    pub headway: u32,
+}
+
+#[repr(C)]
+#[derive(Clone, Copy, Default)]
+pub struct Points {
+    pub count: u32,
+    pub at: [Point; 8],
+}
+
+impl From<&points::Points> for Points {
+    fn from(points: &points::Points) -> Points {
+        let point = |point: points::Point| Point {
+            running: point.running,
+            headway: point.headway,
+        };
+        Points {
+            count: points.count,
+            at: points.at.map(point),
+        }
+    }
+}
+
+#[repr(C)]
+#[derive(Clone, Copy)]
+pub struct PointWorkAnswer {
+    pub work: WorkAnswer,
+    pub blocked: [u32; 8],
 }
 
 #[repr(C)]
@@ -51,7 +88,7 @@ pub struct TitleAnswer {
 }
 
 mod library {
-    use super::{TitleAnswer, ValueAnswer, VolumesAnswer, WorkAnswer};
+    use super::{PointWorkAnswer, Points, TitleAnswer, ValueAnswer, VolumesAnswer, WorkAnswer};
 
     extern "C" {
         pub fn segment_work(
@@ -64,6 +101,19 @@ mod library {
             second: *mut u32,
             second_length: usize,
         ) -> WorkAnswer;
+        pub fn segment_work_points(
+            bytes: *const u8,
+            bytes_length: usize,
+            points: Points,
+            output: *mut u32,
+            output_length: usize,
+            passing: *mut u32,
+            passing_length: usize,
+            first: *mut u32,
+            first_length: usize,
+            second: *mut u32,
+            second_length: usize,
+        ) -> PointWorkAnswer;
         pub fn segment_discharge(
             bytes: *const u8,
             bytes_length: usize,
@@ -105,6 +155,31 @@ pub fn segment_work(
             bytes.len(),
             output.as_mut_ptr(),
             output.len(),
+            first.as_mut_ptr(),
+            first.len(),
+            second.as_mut_ptr(),
+            second.len(),
+        )
+    }
+}
+
+pub fn segment_work_points(
+    bytes: &[u8],
+    points: Points,
+    output: &mut [u32],
+    passing: &mut [u32],
+    first: &mut [u32],
+    second: &mut [u32],
+) -> PointWorkAnswer {
+    unsafe {
+        library::segment_work_points(
+            bytes.as_ptr(),
+            bytes.len(),
+            points,
+            output.as_mut_ptr(),
+            output.len(),
+            passing.as_mut_ptr(),
+            passing.len(),
             first.as_mut_ptr(),
             first.len(),
             second.as_mut_ptr(),
@@ -167,11 +242,17 @@ pub fn archive_report(archive: &[u8], text: &mut [u8]) -> ValueAnswer {
 }
 
 /// The numbers of all calls where every slice is a null pointer of length 0.
-pub fn numbers_of_nulls() -> [u32; 8] {
+pub fn numbers_of_nulls() -> [u32; 9] {
     let (bytes, buffer, profile) = (null(), null_mut(), null_mut());
+    let none = Points::default();
     unsafe {
         [
             library::segment_work(bytes, 0, profile, 0, profile, 0, profile, 0).number,
+            library::segment_work_points(
+                bytes, 0, none, profile, 0, profile, 0, profile, 0, profile, 0,
+            )
+            .work
+            .number,
             library::segment_discharge(bytes, 0, profile, 0).number,
             library::archive_count(bytes, 0).number,
             library::archive_place(bytes, 0, 0).number,

@@ -2,30 +2,43 @@
 //! It prints one line of counts, or the first case that differs.
 
 mod archives;
-mod calls;
+mod points;
 mod records;
 mod same;
 
 use std::process::ExitCode;
 
+use linked::calls;
 use reference::random::Random;
 
 use crate::archives::compare_archive;
+use crate::points::compare_points;
 use crate::records::{compare_record, KINDS};
 use crate::same::{same_list, Same, Tally};
 
 const SEED: u64 = 0x11_47ed;
 const RECORDS: u32 = 2000 * KINDS;
+const POINTS: u32 = 800 * KINDS;
 const ARCHIVES: u32 = 2400;
 
-/// What a call on a record can answer, and what the calls on archives can.
+/// What a call on a record can answer, with points too, and what the calls on archives can.
 const RECORD_NUMBERS: [u32; 12] = [0, 6, 7, 8, 9, 10, 11, 12, 13, 14, 15, 16];
+const POINT_NUMBERS: [u32; 14] = [0, 6, 7, 8, 9, 10, 11, 12, 13, 14, 15, 16, 19, 20];
 const ARCHIVE_NUMBERS: [u32; 9] = [0, 1, 2, 3, 4, 5, 6, 17, 18];
 
 fn all_records(tally: &mut Tally) -> Same {
     let mut random = Random::new(SEED);
     (0..RECORDS).try_for_each(|n| compare_record(&mut random, n, tally))?;
     tally.met("record", &RECORD_NUMBERS)
+}
+
+/// Every number of points must be accepted, too.
+fn all_points(tally: &mut Tally) -> Same {
+    let mut random = Random::new(SEED + 2);
+    let mut counts = Tally::default();
+    (0..POINTS).try_for_each(|n| compare_points(&mut random, n, tally, &mut counts))?;
+    counts.met("accepted count of points", &[0, 1, 2, 3, 4, 5, 6, 7, 8])?;
+    tally.met("record with points", &POINT_NUMBERS)
 }
 
 fn all_archives(tally: &mut Tally) -> Same {
@@ -36,19 +49,21 @@ fn all_archives(tally: &mut Tally) -> Same {
 
 /// A record of no bytes is 6, an archive of none 1, a text buffer of none 17; a null pointer of length 0 is never read.
 fn null_slices() -> Same {
-    same_list("nulls", &calls::numbers_of_nulls(), &[6, 6, 1, 1, 1, 1, 1, 17])
+    same_list("nulls", &calls::numbers_of_nulls(), &[6, 6, 6, 1, 1, 1, 1, 1, 17])
 }
 
 fn main() -> ExitCode {
     let mut records = Tally::default();
+    let mut points = Tally::default();
     let mut archives = Tally::default();
     let compared = null_slices()
         .and_then(|()| all_records(&mut records))
+        .and_then(|()| all_points(&mut points))
         .and_then(|()| all_archives(&mut archives));
     match compared {
         Ok(()) => {
-            let (r, a) = (records.text(), archives.text());
-            println!("linked: {RECORDS} records ({r}), {ARCHIVES} archives ({a}), none differ");
+            let [r, p, a] = [&records, &points, &archives].map(Tally::text);
+            println!("linked: {RECORDS} records ({r}), {POINTS} with points ({p}), {ARCHIVES} archives ({a}), none differ");
             ExitCode::SUCCESS
         }
         Err(difference) => {

@@ -12,9 +12,10 @@ use reference::samples::{
 };
 use reference::vectors::faults::{fault_pairs, faults};
 use reference::vectors::{profile_before, FIRST_BEFORE, OUTPUT_BEFORE, SECOND_BEFORE};
-use reference::working::work;
+use reference::working::{work, Refused, Working};
 
-use crate::calls::{self, WorkAnswer};
+use linked::calls::{self, WorkAnswer};
+
 use crate::same::{bits, same_list, Same, Tally};
 
 type Bytes = [u8; RECORD_BYTES];
@@ -25,11 +26,7 @@ type Lengths = [usize; 4];
 pub const KINDS: u32 = 12;
 
 pub fn compare_record(random: &mut Random, n: u32, tally: &mut Tally) -> Same {
-    let cycle = match n / KINDS % 8 {
-        0 => CYCLE_MOST,
-        1 => CYCLE_LEAST,
-        _ => random.between(CYCLE_LEAST, CYCLE_MOST),
-    };
+    let cycle = cycle(random, n);
     let record = record(random, n % KINDS, cycle);
     let lengths = lengths(random, cycle as usize);
     compare_working(&record, lengths, tally)
@@ -39,7 +36,16 @@ pub fn compare_record(random: &mut Random, n: u32, tally: &mut Tally) -> Same {
         })
 }
 
-fn record(random: &mut Random, kind: u32, cycle: u32) -> Vec<u8> {
+/// The longest, the shortest and any.
+pub fn cycle(random: &mut Random, n: u32) -> u32 {
+    match n / KINDS % 8 {
+        0 => CYCLE_MOST,
+        1 => CYCLE_LEAST,
+        _ => random.between(CYCLE_LEAST, CYCLE_MOST),
+    }
+}
+
+pub fn record(random: &mut Random, kind: u32, cycle: u32) -> Vec<u8> {
     match kind {
         0 => long(random).to_vec(),
         1 => wrapped(random, cycle).to_vec(),
@@ -157,7 +163,7 @@ fn compare_working(record: &[u8], lengths: Lengths, tally: &mut Tally) -> Same {
     let [mut output, mut first, mut second] = before();
     let told = calls::segment_work(record, &mut output, &mut first, &mut second);
     let [mut output2, mut first2, mut second2] = before();
-    let expected = expected_working(record, [&mut output2, &mut first2, &mut second2]);
+    let expected = expected_working(&work(record, &mut output2, &mut first2, &mut second2));
     tally.count(expected.number);
     same_list("working", &numbers(&told), &numbers(&expected))?;
     same_list("output profile", &output, &output2)?;
@@ -166,13 +172,13 @@ fn compare_working(record: &[u8], lengths: Lengths, tally: &mut Tally) -> Same {
 }
 
 /// The reference's answer as the library tells it: all 0 where refused, but 15 with its last sum.
-fn expected_working(record: &[u8], [output, first, second]: [&mut Vec<u32>; 3]) -> WorkAnswer {
+pub fn expected_working(result: &Result<Working, Refused>) -> WorkAnswer {
     let figures = |x: &ExitFigures| calls::ExitFigures {
         total: x.total,
         green: x.green,
         permille: x.permille,
     };
-    match work(record, output, first, second) {
+    match result {
         Ok(working) => WorkAnswer {
             number: 0,
             rounds: working.rounds,
@@ -213,7 +219,7 @@ const REFUSED: WorkAnswer = WorkAnswer {
 };
 
 /// Number, rounds, last sum's bits, arrival, blocked, sixteen pair flows, three exits, access total.
-fn numbers(told: &WorkAnswer) -> Vec<u64> {
+pub fn numbers(told: &WorkAnswer) -> Vec<u64> {
     let mut numbers = vec![
         u64::from(told.number),
         u64::from(told.rounds),

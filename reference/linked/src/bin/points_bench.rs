@@ -1,0 +1,128 @@
+//! Times the library's working with points and the reference's side by side, in one process and on the same accepted records.
+//! usage: points_bench [REPEATS]
+
+use std::hint::black_box;
+use std::time::{Duration, Instant};
+
+use linked::calls;
+use reference::points::{work_points, Points};
+use reference::random::Random;
+use reference::record::{read_u32, RUNNING_TIME_AT};
+use reference::samples::{good_points, random_record, RecordBytes};
+
+const SEED: u64 = 0x9017_be4c;
+/// Records of a line, each worked by both sides in turn.
+const RECORDS: usize = 64;
+const CYCLES: [u32; 3] = [60, 120, 240];
+const COUNTS: [u32; 3] = [0, 1, 8];
+
+/// A record with its points, in the form of each side.
+struct Sample {
+    record: RecordBytes,
+    points: Points,
+    library_points: calls::Points,
+}
+
+/// Profiles that are long enough for every sample, lent to both sides in turn.
+struct Profiles {
+    output: [u32; 960],
+    passing: [u32; 1920],
+    first: [u32; 240],
+    second: [u32; 240],
+}
+
+impl Profiles {
+    fn new() -> Profiles {
+        Profiles {
+            output: [0; 960],
+            passing: [0; 1920],
+            first: [0; 240],
+            second: [0; 240],
+        }
+    }
+
+    /// The number of refusal that the library answers.
+    fn by_library(&mut self, sample: &Sample) -> u32 {
+        let answer = calls::segment_work_points(
+            &sample.record,
+            sample.library_points,
+            &mut self.output,
+            &mut self.passing,
+            &mut self.first,
+            &mut self.second,
+        );
+        black_box(&answer).work.number
+    }
+
+    /// The number of refusal that the reference answers.
+    fn by_reference(&mut self, sample: &Sample) -> u32 {
+        let answer = work_points(
+            &sample.record,
+            &sample.points,
+            &mut self.output,
+            &mut self.passing,
+            &mut self.first,
+            &mut self.second,
+        );
+        black_box(&answer).map_or_else(|refused| refused.number, |_| 0)
+    }
+}
+
+fn sample(random: &mut Random, cycle: u32, count: u32) -> Sample {
+    let record = random_record(random, cycle);
+    let points = good_points(random, count, read_u32(&record, RUNNING_TIME_AT));
+    Sample {
+        record,
+        points,
+        library_points: calls::Points::from(&points),
+    }
+}
+
+/// Random samples that are accepted; the same records for every count of points.
+fn samples(cycle: u32, count: u32) -> Vec<Sample> {
+    let mut random = Random::new(SEED);
+    let mut profiles = Profiles::new();
+    let all = std::iter::repeat_with(|| sample(&mut random, cycle, count));
+    all.filter(|sample| profiles.by_reference(sample) == 0)
+        .take(RECORDS)
+        .collect()
+}
+
+/// The time of one call, which must accept.
+fn once(call: impl FnOnce() -> u32) -> Duration {
+    let start = Instant::now();
+    let number = call();
+    let time = start.elapsed();
+    assert_eq!(number, 0);
+    time
+}
+
+/// Microseconds.
+fn median(mut times: Vec<Duration>) -> f64 {
+    times.sort();
+    times[times.len() / 2].as_secs_f64() * 1e6
+}
+
+/// Single calls in turn, so that what else the machine does falls on few of them.
+fn side_by_side(samples: &[Sample], repeats: usize) -> [f64; 2] {
+    let mut profiles = Profiles::new();
+    let mut times = [Vec::new(), Vec::new()];
+    for sample in (0..repeats).flat_map(|_| samples) {
+        times[0].push(once(|| profiles.by_library(sample)));
+        times[1].push(once(|| profiles.by_reference(sample)));
+    }
+    times.map(median)
+}
+
+fn main() {
+    let repeats = std::env::args().nth(1);
+    let repeats = repeats.map_or(41, |n| n.parse().expect("REPEATS"));
+    println!("cycle points  library us  reference us  ratio");
+    for cycle in CYCLES {
+        for count in COUNTS {
+            let [library, reference] = side_by_side(&samples(cycle, count), repeats);
+            let ratio = library / reference;
+            println!("{cycle:5} {count:6} {library:11.2} {reference:13.2} {ratio:6.2}");
+        }
+    }
+}
