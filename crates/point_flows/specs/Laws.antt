@@ -25,14 +25,19 @@ run-length : (s : Segment) (p : Point) → length (pointRun s p) ≡ s .cycle
 unfolding pointRun
 run-length s p = tab-length (pointFlow s p) 1 (s .cycle)
 
--- run i is that of point i; d is whatever stands where there is none
+-- run i is that of point i, whatever the runs were worked over; d is whatever stands where there is no point
+run-worked : (s : Segment) (d : Point) (ps : List Point) (out : List ℕ) (i : ℕ) → i < length ps →
+    runAt (s .cycle) i (perRun (λ p run. pointRun s p) (s .cycle) ps out) ≡ pointRun s (getD ps i d)
+unfolding perRun
+run-worked s d [] out i h = absurd (omega arith)
+run-worked s d (p ∷ ps) out zero h = run-first (s .cycle) (pointRun s p) _ (run-length s p)
+run-worked s d (p ∷ ps) out (suc i) h =
+    run-behind (s .cycle) (pointRun s p) _ (run-length s p) i ∙ run-worked s d ps (drop (s .cycle) out) i (omega arith)
+
 pub run-of-point : (s : Segment) (d : Point) (ps : List Point) (out : List ℕ) (i : ℕ) → i < length ps →
     runAt (s .cycle) i (pointRuns s ps out) ≡ pointRun s (getD ps i d)
-unfolding pointRuns perRun
-run-of-point s d [] out i h = absurd (omega arith)
-run-of-point s d (p ∷ ps) out zero h = run-first (s .cycle) (pointRun s p) _ (run-length s p)
-run-of-point s d (p ∷ ps) out (suc i) h =
-    run-behind (s .cycle) (pointRun s p) _ (run-length s p) i ∙ run-of-point s d ps (drop (s .cycle) out) i (omega arith)
+unfolding pointRuns
+run-of-point s d ps out i h = run-worked s d ps _ i h
 
 -- its number `step` is the flow past that point
 pub point-number : (s : Segment) (d : Point) (ps : List Point) (out : List ℕ) (i step : ℕ) → i < length ps → 0 < step → step ≤ s .cycle →
