@@ -1,4 +1,4 @@
--- The record's three discharges, made in an array for the longest cycle, as the points take them.
+-- Arrays that are lent whole; and the record's three discharges, made in one for the longest cycle, as the points take them.
 use Prim.Native.Nat.{ℕ, _*_, _≤_}
 use native.Mathlib.Omega.{arith}
 use mathlib.Core.Path.{_≡_}
@@ -12,14 +12,15 @@ use Rattle.entries.specs.Laws.{entry-runs}
 use Rattle.points.specs.declared.Points.{Points}
 use Rattle.point_filling.specs.Steps.{FillFits, EachFits}
 
+-- an array after all of it was lent: what was made there, and nothing is cut
+pub array-long : {n : ℕ} (made rest : List ℕ) → length made ≡ n → n ≤ length (made ++ rest)
+array-long made rest whole = simp length-append (omega arith)
+
 -- room for three runs of the longest cycle
 abbrev dischargeRoom : ℕ
 dischargeRoom = 3 * mostCycle
 
 module _ (made rest : List ℕ) (whole : length made ≡ dischargeRoom) where
-  pub discharge-long : dischargeRoom ≤ length (made ++ rest)
-  discharge-long = simp length-append (omega arith)
-
   pub discharging : {s : Segment} {ps : Points} {out : List ℕ} → FillFits s ps out → (array : List ℕ) → made ≡ entryProfiles s array →
       EachFits s ps (take dischargeRoom (made ++ rest)) out
   discharging {s} h array is =

@@ -6,7 +6,7 @@ use mathlib.Core.Bool.{Bool, true, false}
 use mathlib.Core.Path.{_≡_, refl, sym, _∙_}
 use mathlib.Core.List.{List, _++_}
 use lib.Dec.{ltb}
-use lib.ListN.{length, take, drop, getD, replicate, length-append, List·getD-eq-default}
+use lib.ListN.{length, take, drop, getD, replicate, List·getD-eq-default}
 use lib.Seq.{take-at}
 use borrow.Author.Tests.{ltb-true, ltb-false}
 use Rattle.limits.specs.Limits.{mostCycle, mostRunning, stepBound}
@@ -31,20 +31,12 @@ use Rattle.point_filling.specs.Steps.{PassFits}
 
 -- ---- one entry
 
--- the cycles stand in arrays of the longest cycle, whole
-module _ (f′ rest : List ℕ) (whole : length f′ ≡ mostCycle) where
-  pub array-long : mostCycle ≤ length (f′ ++ rest)
-  array-long = simp length-append (omega arith)
-
-  array-is : take mostCycle (f′ ++ rest) ≡ f′
-  array-is = take-at f′ rest mostCycle whole
-
 module _ (running : ℕ) (q f g : List ℕ) {st : PlatoonState} {f′ g′ : List ℕ} (e : work st f′ g′ ≡ cyclesWorked running q cycles f g)
     (whole-f : length f′ ≡ mostCycle) (whole-g : length g′ ≡ mostCycle) (rest-f rest-g : List ℕ) {part : List ℕ}
     (last : part ≡ lastPart (take mostCycle (f′ ++ rest-f)) (take mostCycle (g′ ++ rest-g)) cycles (length q)) {t : ℕ} (time : t ≡ arrivalTimeOf running) where
   -- the part handed back is the reported cycle
   part-is : part ≡ reported running q cycles
-  part-is = last ∙ rw (array-is f′ rest-f whole-f, array-is g′ rest-g whole-g) (last-part running q 1 f g e)
+  part-is = last ∙ rw (take-at f′ rest-f mostCycle whole-f, take-at g′ rest-g mostCycle whole-g) (last-part running q 1 f g e)
 
   pub pass-lands : {run : List ℕ} → PassFits running q run → LandsFit t part run
   pass-lands h =

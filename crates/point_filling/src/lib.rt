@@ -1,4 +1,4 @@
-// The flow that passes each of the points along a segment, and the steps in which it blocks a crossing there.
+// Filling the point profiles of an accepted segment: the flow that passes each point, and its blocked steps.
 ghost use mathlib.Core.Path.{_≡_};
 ghost use lib.ListN.{length};
 ghost use Rattle.signal.specs.Landing.{added};

@@ -18,6 +18,19 @@ pub const FIRST_BEFORE: u32 = 3_100_000_000;
 pub const SECOND_BEFORE: u32 = 3_200_000_000;
 pub const PASSING_BEFORE: u32 = 3_300_000_000;
 
+/// The turns of t', in running times.
+pub const ARRIVAL_TURNS: [u32; 8] = [1000, 40098, 40099, 57499, 57500, 57501, 299_999, 300_000];
+
+/// Volumes and headways at the edge of blocking.
+pub const BLOCKING_EDGES: [(u32, u32); 6] = [
+    (360, 10000),
+    (361, 10000),
+    (3600, 1000),
+    (3601, 1000),
+    (878, 4100),
+    (879, 4100),
+];
+
 pub fn profile_before(start: u32, length: usize) -> Vec<u32> {
     (start..).take(length).collect()
 }

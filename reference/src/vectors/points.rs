@@ -3,9 +3,8 @@
 use super::discharge::refused_by_volume;
 use super::faults::{fault_pairs, faults};
 use super::working::{fullest, long_record, with_idle_entries};
-use super::{
-    product, profile_before, Body, File, FIRST_BEFORE, OUTPUT_BEFORE, PASSING_BEFORE, SECOND_BEFORE,
-};
+use super::{product, profile_before, Body, File, ARRIVAL_TURNS, BLOCKING_EDGES};
+use super::{FIRST_BEFORE, OUTPUT_BEFORE, PASSING_BEFORE, SECOND_BEFORE};
 use crate::points::{work_points, Point, Points, POINTS_MOST};
 use crate::random::Random;
 use crate::record::{read_u32, ACCESS_AT, CYCLE_LEAST, CYCLE_MOST, RUNNING_TIME_AT};
@@ -272,15 +271,7 @@ fn add_refused_records(file: &mut File) {
 
 /// Only access enters: flows at the edge of blocking, by the point's headway.
 fn add_near_blocking(file: &mut File) {
-    for (volume, headway) in [
-        (360, 10000),
-        (361, 10000),
-        (3600, 1000),
-        (3601, 1000),
-        (878, 4100),
-        (879, 4100),
-        (6000, 1000),
-    ] {
+    for (volume, headway) in BLOCKING_EDGES.into_iter().chain([(6000, 1000)]) {
         let mut record = quiet(CYCLE_LEAST);
         put_u16(&mut record, ACCESS_AT, volume);
         put_exits(&mut record, [0, 1, 0, 0]);
@@ -291,10 +282,9 @@ fn add_near_blocking(file: &mut File) {
 
 /// The turns of t', each point's own.
 fn add_running_times(file: &mut File) {
-    let turns = [1000, 40098, 40099, 57499, 57500, 57501, 299_999, 300_000];
     let points = Points {
         count: 8,
-        at: turns.map(|running| point(running, 3000)),
+        at: ARRIVAL_TURNS.map(|running| point(running, 3000)),
     };
     for cycle in [CYCLE_LEAST, 47, 90] {
         let mut record = busy(cycle);

@@ -4,7 +4,8 @@ use super::balance_cases::{Inputs, BY_ROUNDS, BY_STOP};
 use super::discharge::refused_by_volume;
 use super::faults::{fault_pairs, faults, Fault};
 use super::range_ends::{green_ends, headway_ends, number_ends, volume_ends};
-use super::{product, profile_before, Body, File, FIRST_BEFORE, OUTPUT_BEFORE, SECOND_BEFORE};
+use super::{product, profile_before, Body, File};
+use super::{ARRIVAL_TURNS, BLOCKING_EDGES, FIRST_BEFORE, OUTPUT_BEFORE, SECOND_BEFORE};
 use crate::arrivals::ExitFigures;
 use crate::random::Random;
 use crate::record::{ACCESS, ACCESS_AT, CYCLE_LEAST, CYCLE_MOST, HEADWAY_AT, RUNNING_TIME_AT};
@@ -197,7 +198,7 @@ fn add_example(file: &mut File) {
 
 /// The turns of t'.
 fn add_running_times(file: &mut File) {
-    for running_time in [1000, 40098, 40099, 57499, 57500, 57501, 299_999, 300_000] {
+    for running_time in ARRIVAL_TURNS {
         let mut record = busy(CYCLE_LEAST);
         put_u32(&mut record, RUNNING_TIME_AT, running_time);
         add_exact(file, CYCLE_LEAST, &record);
@@ -206,14 +207,7 @@ fn add_running_times(file: &mut File) {
 
 /// Flows at the edge of blocking.
 fn add_near_blocking(file: &mut File) {
-    for (volume, headway) in [
-        (360, 10000),
-        (361, 10000),
-        (3600, 1000),
-        (3601, 1000),
-        (878, 4100),
-        (879, 4100),
-    ] {
+    for (volume, headway) in BLOCKING_EDGES {
         let mut record = quiet(CYCLE_LEAST);
         put_u16(&mut record, HEADWAY_AT, headway);
         put_u16(&mut record, ACCESS_AT, volume);

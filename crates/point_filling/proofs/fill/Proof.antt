@@ -2,7 +2,7 @@
 use Prim.Native.Nat.{_-_}
 use mathlib.Core.Path.{_≡_}
 use lib.ListN.{length, drop, replicate}
-use Rattle.point_filling.proofs.Discharging.{discharge-long, discharging}
+use Rattle.point_filling.proofs.Discharging.{array-long, discharging}
 use borrow.Author.Needs.{needs}
 use Rattle.point_filling.proofs.fill.Statement.{statement}
 use Rattle.point_filling.proofs.fill.Tie as tie
@@ -17,7 +17,7 @@ whole c = c .fill-profiles .kept .1 .1 .0
 part-fill-each-end : tie.Need-part-fill-each-end
 part-fill-each-end c =
     let f = c .before .before in
-    discharge-long (f .fill-profiles .last .1 .1 .0) (drop (720 - 0) (replicate 720 0)) (whole f)
+    array-long (f .fill-profiles .last .1 .1 .0) (drop (720 - 0) (replicate 720 0)) (whole f)
 
 fill-each-requires : tie.Need-fill-each-requires
 fill-each-requires c κs =

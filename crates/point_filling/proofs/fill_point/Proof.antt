@@ -5,7 +5,8 @@ use mathlib.Core.Path.{_∙_}
 use Rattle.movements.specs.Movements.{flowUnits}
 use Rattle.arrivals.specs.Arrivals.{arrivalLimit}
 use Rattle.point_flows.specs.PointFlows.{passesIn, pointBlocked}
-use Rattle.point_filling.proofs.Passing.{left-run, through-run, right-run, Passing, passing-start, passing-short, passing-fits, passing-entry, passing-all}
+use Rattle.point_filling.proofs.Passing.{left-run, through-run, right-run}
+use Rattle.point_filling.proofs.Passing.{Passing, passing-start, passing-short, passing-fits, passing-entry, passing-all}
 use borrow.Author.Needs.{needs}
 use Rattle.point_filling.proofs.fill_point.Statement.{statement}
 use Rattle.point_filling.proofs.fill_point.Tie as tie

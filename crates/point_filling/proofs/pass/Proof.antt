@@ -2,7 +2,8 @@
 use Prim.Native.Nat.{_-_}
 use mathlib.Core.Path.{_≡_}
 use lib.ListN.{length, drop, replicate}
-use Rattle.point_filling.proofs.Passing.{array-long, pass-lands, pass-done}
+use Rattle.point_filling.proofs.Discharging.{array-long}
+use Rattle.point_filling.proofs.Passing.{pass-lands, pass-done}
 use borrow.Author.Needs.{needs}
 use Rattle.point_filling.proofs.pass.Statement.{statement}
 use Rattle.point_filling.proofs.pass.Tie as tie
