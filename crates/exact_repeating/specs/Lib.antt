@@ -1,0 +1,4 @@
+pub mod Repeating
+pub mod Powers
+pub mod Laws
+pub mod FromEmpty

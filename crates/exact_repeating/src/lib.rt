@@ -1,0 +1,1 @@
+// The repeating flow and its laws are in specs/: nothing runs here.
