@@ -70,11 +70,14 @@ intoFirst running q w = work (stateAfter running q (w .state)) (cycleWritten run
 abbrev pub intoSecond : ℕ → List ℕ → Work → Work
 intoSecond running q w = work (stateAfter running q (w .state)) (w .first) (cycleWritten running q (w .state) (w .second))
 
+-- cycle k + 1 goes into the first profile where k is even
+abbrev pub cycleWorked : ℕ → List ℕ → ℕ → Work → Work
+cycleWorked running q k w = cond (eqb (k % 2) 0) (intoFirst running q w) (intoSecond running q w)
+
 -- the cycles alternate between the profiles, cycle one in the first
 unfoldable pub cyclesWorked : ℕ → List ℕ → ℕ → List ℕ → List ℕ → Work
 cyclesWorked running q zero f g = work emptyState f g
-cyclesWorked running q (suc k) f g =
-    cond (eqb (k % 2) 0) (intoFirst running q (cyclesWorked running q k f g)) (intoSecond running q (cyclesWorked running q k f g))
+cyclesWorked running q (suc k) f g = cycleWorked running q k (cyclesWorked running q k f g)
 
 -- the first profile holds the last of so many cycles where their number is odd
 abbrev pub firstHolds : ℕ → Bool

@@ -4,7 +4,9 @@ ghost use mathlib.Core.Path.{_≡_};
 ghost use Prim.Native.Nat.{_≤_, _<_};
 ghost use lib.ListN.{length};
 ghost use Rattle.limits.specs.Limits.{mostRunning};
-ghost use Rattle.dispersion.specs.Dispersion.{divisorOf, arrivalTimeOf, stepOf, stateAfter, cycleWritten, work, cyclesWorked, firstHolds, lastPart};
+ghost use Rattle.dispersion.specs.Dispersion.{divisorOf, arrivalTimeOf, stepOf, stateAfter, cycleWritten};
+ghost use Rattle.dispersion.specs.Dispersion.{work, cycleWorked, cyclesWorked, firstHolds, lastPart};
+ghost use Rattle.dispersion.specs.Rest.{neededOf};
 
 // The numerator of the smoothing factor (N of the paper); the divisor stands under it.
 const SMOOTHING: u64 = 500000;
@@ -69,8 +71,41 @@ fn disperse(
     state
 }
 
+// Cycle k, from 0, into the profile whose turn it is.
+fn work_cycle(
+    running: u32,
+    discharge: &[u32],
+    first: &mut [u32],
+    second: &mut [u32],
+    k: u32,
+    from: PlatoonState,
+) -> PlatoonState
+    requires { ⌜ running ≤ mostRunning ⌝ }
+    requires { ⌜ from .carry < divisorOf running ⌝ }
+    requires { ⌜ (length (now discharge) ≤ length (now first)) × (length (now discharge) ≤ length (now second)) ⌝ }
+    ensures { λ r. ⌜ work r (now (first .exit)) (now (second .exit))
+        ≡ cycleWorked running (now (discharge .entry)) k (work from (now (first .entry)) (now (second .entry))) ⌝ }
+{
+    if k % 2 == 0 {
+        return disperse(running, discharge, first, from);
+    }
+    disperse(running, discharge, second, from)
+}
+
+// How many cycles need working once so many are. Where the last of them left the state in which it began,
+// every later one is the same: one more, for the other profile, and the rest need not be worked.
+fn cycles_needed(worked: u32, cycles: u32, before: PlatoonState, after: PlatoonState) -> u32
+    ensures { λ r. ⌜ r ≡ neededOf worked cycles before after ⌝ }
+{
+    if worked < cycles && before.level == after.level && before.carry == after.carry {
+        return worked + 1;
+    }
+    cycles
+}
+
 // So many cycles from an empty segment, level and carry running on: the first, third, .. into the
-// first profile, the second, fourth, .. into the second.
+// first profile, the second, fourth, .. into the second. It ends once the segment rests, since the
+// profiles then hold what all the cycles leave.
 pub fn alternate(
     running: u32,
     discharge: &[u32],
@@ -84,14 +119,13 @@ pub fn alternate(
         ≡ cyclesWorked running (now (discharge .entry)) cycles (now (first .entry)) (now (second .entry)) ⌝ }
 {
     let mut state = PlatoonState { level: 0, carry: 0 };
+    let mut needed = cycles;
     let mut k: u32 = 0;
-    while k < cycles {
-        if k % 2 == 0 {
-            state = disperse(running, discharge, first, state);
-        } else {
-            state = disperse(running, discharge, second, state);
-        }
+    while k < needed {
+        let next = work_cycle(running, discharge, first, second, k, state);
         k += 1;
+        needed = cycles_needed(k, needed, state, next);
+        state = next;
     }
     state
 }
