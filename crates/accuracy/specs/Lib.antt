@@ -1,3 +1,4 @@
 pub mod Accuracy
+pub mod Near
 pub mod Holds
 pub mod Alone

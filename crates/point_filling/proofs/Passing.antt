@@ -24,7 +24,7 @@ use Rattle.dispersion.specs.Dispersion.{work, arrivalTimeOf, reported, cyclesWo
 use Rattle.dispersion.specs.Arrivals.{arrival-time-small}
 use Rattle.dispersion.specs.Cycles.{last-part, reported-length, reported-le}
 use Rattle.arrivals.specs.Arrivals.{arrivalLimit, runLimit, LandsFit}
-use Rattle.propagation.specs.Propagation.{cycles}
+use Rattle.propagation.specs.Propagation.{cyclesBefore, cycles}
 use Rattle.points.specs.declared.Point.{Point}
 use Rattle.point_flows.specs.PointFlows.{pointArrivals, passesIn, pointFlow, pointRun}
 use Rattle.point_filling.specs.Steps.{PassFits}
@@ -36,13 +36,13 @@ module _ (running : ℕ) (q f g : List ℕ) {st : PlatoonState} {f′ g′ : Lis
     (last : part ≡ lastPart (take mostCycle (f′ ++ rest-f)) (take mostCycle (g′ ++ rest-g)) cycles (length q)) {t : ℕ} (time : t ≡ arrivalTimeOf running) where
   -- the part handed back is the reported cycle
   part-is : part ≡ reported running q cycles
-  part-is = last ∙ rw (take-at f′ rest-f mostCycle whole-f, take-at g′ rest-g mostCycle whole-g) (last-part running q 1 f g e)
+  part-is = last ∙ rw (take-at f′ rest-f mostCycle whole-f, take-at g′ rest-g mostCycle whole-g) (last-part running q cyclesBefore f g e)
 
   pub pass-lands : {run : List ℕ} → PassFits running q run → LandsFit t part run
   pass-lands h =
       rw (part-is, time)
       (record {
-        long = reported-length running q 1 ∙ h .long;
+        long = reported-length running q cyclesBefore ∙ h .long;
         some = h .some;
         cycle = h .cycle;
         time = arrival-time-small running (h .time);
@@ -129,7 +129,7 @@ module _ {s : Segment} {b : ℕ} {r : ℕ → ℕ} {run : List ℕ} (h : Passing
       record {
         is = is ∙ rw (eq, passing-length, h .is) (added-tab c t r arrivals (omega (arith, ranges .cycle)));
         small = λ step low high.
-            rw (landing-is c t step arrivals low high (omega (arith, reported-length (p .running) q 1, entry-length c e)))
+            rw (landing-is c t step arrivals low high (omega (arith, reported-length (p .running) q cyclesBefore, entry-length c e)))
             (omega (arith, h .small step low high, reported-le (p .running) arrivalLimit q cycles (entry-le c e er) (earlier c t step - 1)));
       }
 

@@ -15,6 +15,7 @@ use Rattle.segment.specs.declared.Segment.{Segment}
 use Rattle.entries.specs.Laws.{entry-length}
 use Rattle.dispersion.specs.Dispersion.{arrivalTimeOf}
 use Rattle.dispersion.specs.Cycles.{reported-length}
+use Rattle.propagation.specs.Propagation.{cyclesBefore}
 use Rattle.points.specs.declared.Point.{Point}
 use Rattle.points.specs.Points.{mostPoints}
 use Rattle.point_flows.specs.PointFlows.{pointArrivals, passesIn, pointFlow, pointRun, pointRuns, pointCounts}
@@ -73,7 +74,7 @@ no-counts s = refl
 module _ (s : Segment) (p : Point) (e : Entry) where
   arrivals-length : length (pointArrivals s p e) ≡ s .cycle
   unfolding pointArrivals
-  arrivals-length = reported-length _ _ 1 ∙ entry-length (s .cycle) e
+  arrivals-length = reported-length _ _ cyclesBefore ∙ entry-length (s .cycle) e
 
   -- what lands in a step is the arrival of the one discharge step that lands there
   pub passes-is : (step : ℕ) → 0 < step → step ≤ s .cycle →

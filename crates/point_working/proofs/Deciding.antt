@@ -9,6 +9,7 @@ use lib.ListN.{length}
 use borrow.Author.Tests.{leb-true}
 use Rattle.refusal.specs.Refusal.{Or, ok, false-true, both}
 use Rattle.segment.specs.declared.Segment.{Segment}
+use Rattle.ranges.specs.Ranges.{Ranges}
 use Rattle.validation.specs.declared.Checked.the-variants as checked
 use Rattle.validation.specs.Validation.{checkedOf}
 use Rattle.validation.specs.Accepted.{Accepted}
@@ -59,8 +60,8 @@ module _ (s : Segment) (ps : Points) (p : Profiles) (q : List ℕ) (r : PointWor
   beneath : called (r .working) p′ ≡ byDecision s (decisionFor s) p
   beneath = ap (λ (c : PointCalled). called (c .answer .working) (c .after)) e
 
-  accurate-exits : Accurate s (r .working .pairs .rows) p′
-  accurate-exits = decided-accurate s p (r .working) p′ beneath x worked
+  accurate-exits : Ranges s → Accurate s (r .working .pairs .rows) p′
+  accurate-exits fits = decided-accurate s fits p (r .working) p′ beneath x worked
 
   runs-written : q′ ≡ pointRuns s (given ps) q
   runs-written =
@@ -68,8 +69,8 @@ module _ (s : Segment) (ps : Points) (p : Profiles) (q : List ℕ) (r : PointWor
       let o : c .answer .outcome ≡ Worked x = sym (ap (λ (d : Called). d .answer .outcome) beneath) ∙ worked in
       ap (λ (d : PointCalled). d .passing) e ∙ ap (λ (u : Outcome). passingAfter u s ps q) o
 
-  accurate-points : ps .count ≤ length (ps .at) → PointsAccurate s ps q′
-  accurate-points room = rw runs-written (points-accurate s ps q room)
+  accurate-points : FillFits s ps q → ps .count ≤ length (ps .at) → PointsAccurate s ps q′
+  accurate-points h room = rw runs-written (points-accurate s ps q room (h .ranges) (h .fit))
 
 -- ---- what the record, the points and the lengths decide
 
@@ -95,11 +96,12 @@ module _ (l : List ℕ) (ps : Points) (p : Profiles) (q : List ℕ) where
   record-worked eight s v r p′ q′ e =
       let a = checked-valid accepts s v in
       let same = passed s a .0 .is in
-      let room : ps .count ≤ length (ps .at) = omega (arith, eight, passed s a .1 .points .few) in
+      let h = passed s a .1 .points in
+      let room : ps .count ≤ length (ps .at) = omega (arith, eight, h .few) in
       record {
         is = e ∙ rw a;
-        accurate = λ x o. subst (λ (u : Segment). Accurate u (r .working .pairs .rows) p′) same (accurate-exits s ps p q r p′ q′ e x o);
-        points = λ x o. subst (λ (u : Segment). PointsAccurate u ps q′) same (accurate-points s ps p q r p′ q′ e x o room);
+        accurate = λ x o. subst (λ (u : Segment). Accurate u (r .working .pairs .rows) p′) same (accurate-exits s ps p q r p′ q′ e x o (h .ranges));
+        points = λ x o. subst (λ (u : Segment). PointsAccurate u ps q′) same (accurate-points s ps p q r p′ q′ e x o h room);
       }
 
   -- refused for its record, its points or a profile's length

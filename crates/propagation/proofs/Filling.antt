@@ -18,7 +18,7 @@ use Rattle.dispersion.specs.Dispersion.{arrivalTimeOf, reported}
 use Rattle.dispersion.specs.Cycles.{reported-length, reported-le}
 use Rattle.arrivals.specs.Arrivals.{arrivalLimit, runLimit, begun, fourRuns}
 use Rattle.arrivals.specs.Laws.{runs-le, begun-runs, added-runs, lands-le}
-use Rattle.propagation.specs.Propagation.{Profiles, profiles, cycles, pairFlow, entryArrivals, pairOf, landsIn, flowAt, filledOf}
+use Rattle.propagation.specs.Propagation.{Profiles, profiles, cyclesBefore, cycles, pairFlow, entryArrivals, pairOf, landsIn, flowAt, filledOf}
 use Rattle.propagation.specs.Steps.{spreadStep, FillEntryFits, entryStep, Room, RowsFit, FillFits, room-kept}
 
 -- the flow units that the access entry can bring to a step
@@ -68,8 +68,8 @@ module _ {s : Segment} {p₀ p : Profiles} {b : ℕ} {r : ℕ → ℕ → ℕ} (
       let c = s .cycle in
       let q = entryProfile c e in
       let l : length q ≡ c = entry-length c e in
-      let n1 : length (reported (s .running) q 1) ≡ c = reported-length (s .running) q 0 ∙ l in
-      let n2 : length (reported (s .running) q cycles) ≡ c = reported-length (s .running) q 1 ∙ l in
+      let before : length (reported (s .running) q cyclesBefore) ≡ c = reported-length (s .running) q (cyclesBefore - 1) ∙ l in
+      let last : length (reported (s .running) q cycles) ≡ c = reported-length (s .running) q cyclesBefore ∙ l in
       record {
         room = room;
         runs = ap (λ (x : Profiles). x .output) ep
@@ -80,10 +80,10 @@ module _ {s : Segment} {p₀ p : Profiles} {b : ℕ} {r : ℕ → ℕ → ℕ} (
               arith,
               h .small j k hj pos fits,
               lands-le c (arrivalTimeOf (s .running)) k (getD row j 0) (dischargeUnits c e) arrivalLimit (reported (s .running) q cycles) pos fits
-                  (omega (arith, n2)) (shares j) (reported-le (s .running) arrivalLimit q cycles (entry-le c e er)),
+                  (omega (arith, last)) (shares j) (reported-le (s .running) arrivalLimit q cycles (entry-le c e er)),
             );
-        first = ap (λ (x : Profiles). drop c (x .first)) ep ∙ rw l (drop-at (reported (s .running) q 1) (drop c (p .first)) c n1) ∙ h .first;
-        second = ap (λ (x : Profiles). drop c (x .second)) ep ∙ rw l (drop-at (reported (s .running) q cycles) (drop c (p .second)) c n2) ∙ h .second;
+        first = ap (λ (x : Profiles). drop c (x .first)) ep ∙ rw l (drop-at (reported (s .running) q cycles) (drop c (p .first)) c last) ∙ h .first;
+        second = ap (λ (x : Profiles). drop c (x .second)) ep ∙ rw l (drop-at (reported (s .running) q cyclesBefore) (drop c (p .second)) c before) ∙ h .second;
       }
 
 module _ {s : Segment} {p₀ : Profiles} {o f g : List ℕ} {b : ℕ} (ranges : Ranges s) where

@@ -1,5 +1,5 @@
 -- The profiles of a segment whose pair flows are given: each entry's discharge dispersed, shared among the exits, and landed.
-use Prim.Native.Nat.{ℕ, _+_, _*_}
+use Prim.Native.Nat.{ℕ, suc, _+_, _*_}
 use mathlib.Core.List.{List, [], _++_}
 use lib.ListN.{drop, getD}
 use denote.Ref.{RefT}
@@ -25,9 +25,12 @@ profiles o f s = record { output = o; first = f; second = s }
 abbrev pub lent : (output first second : RefT (List ℕ)) → Profiles
 lent output first second = profiles (output .now) (first .now) (second .now)
 
--- two cycles are worked, and the second is reported
+-- sixty-four cycles are worked before the reported one, sixty-five in all
+abbrev pub cyclesBefore : ℕ
+cyclesBefore = 64
+
 abbrev pub cycles : ℕ
-cycles = 2
+cycles = suc cyclesBefore
 
 -- the pair flow v of an entry and an exit, each counted from 0
 abbrev pub pairFlow : List (List ℕ) → ℕ → ℕ → ℕ
@@ -53,10 +56,11 @@ flowAt s rows exit step =
     + landsIn s (s .through) (pairFlow rows 1 exit) step
     + landsIn s (s .right) (pairFlow rows 2 exit) step
 
--- four runs in the output, exits in order; cycles one and two of the right entry in the work profiles; numbers beyond stay
+-- four runs in the output, exits in order; the right entry's last cycle in the first work profile, the one before it in the second;
+-- numbers beyond stay
 unfoldable pub filledOf : Segment → List (List ℕ) → Profiles → Profiles
 filledOf s rows p =
     let q = entryProfile (s .cycle) (s .right) in
     profiles (fourRuns (s .cycle) (flowAt s rows) (drop (4 * s .cycle) (p .output)))
-    (reported (s .running) q 1 ++ drop (s .cycle) (p .first))
-    (reported (s .running) q cycles ++ drop (s .cycle) (p .second))
+    (reported (s .running) q cycles ++ drop (s .cycle) (p .first))
+    (reported (s .running) q cyclesBefore ++ drop (s .cycle) (p .second))

@@ -15,14 +15,14 @@ use Rattle.entries.specs.Entries.{entryProfile}
 use Rattle.dispersion.specs.Dispersion.{arrivalTimeOf, reported}
 use Rattle.arrivals.specs.Arrivals.{runLimit, entryAdded}
 use Rattle.arrivals.specs.Arrivals as arrivals
-use Rattle.propagation.specs.Propagation.{Profiles, profiles, cycles, pairFlow}
+use Rattle.propagation.specs.Propagation.{Profiles, profiles, cyclesBefore, cycles, pairFlow}
 
--- a discharge dispersed, its last cycle shared and landed, both cycles left in the work profiles
+-- a discharge dispersed, its last cycle shared and landed, the last two cycles left in the work profiles
 unfoldable pub spreadStep : (running units : ℕ) → List ℕ → List ℕ → Profiles → Profiles
 spreadStep running units row q p =
     profiles (entryAdded (length q) (arrivalTimeOf running) units (reported running q cycles) row (p .output))
-    (reported running q 1 ++ drop (length q) (p .first))
-    (reported running q cycles ++ drop (length q) (p .second))
+    (reported running q cycles ++ drop (length q) (p .first))
+    (reported running q cyclesBefore ++ drop (length q) (p .second))
 
 pub record SpreadFits (running units : ℕ) (row q : List ℕ) (p : Profiles) : Type 0 where
   pub time : running ≤ mostRunning

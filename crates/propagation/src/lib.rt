@@ -7,7 +7,7 @@ use segment::Entry;
 use segment::Segment;
 
 // Cycles worked from an empty segment; the last is reported.
-pub const CYCLES: u32 = 2;
+pub const CYCLES: u32 = 65;
 
 // Disperses a discharge over the cycles and adds what of it goes to each exit.
 fn spread(

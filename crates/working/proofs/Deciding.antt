@@ -84,7 +84,7 @@ module _ (l : List ℕ) (p : Profiles) where
       let a = checked-valid accepts s e in
       record {
         is = q ∙ rw a;
-        accurate = λ x o. subst (λ (u : Segment). Accurate u (w .pairs .rows) p′) (passed s a .0 .is) (decided-accurate s p w p′ q x o);
+        accurate = λ x o. subst (λ (u : Segment). Accurate u (w .pairs .rows) p′) (passed s a .0 .is) (decided-accurate s (passed s a .0 .ranges) p w p′ q x o);
       }
 
   -- refused for its record or a profile's length

@@ -14,6 +14,7 @@ use Rattle.lists.specs.Lists.{sum}
 use Rattle.movements.specs.declared.Counts.{Counts}
 use Rattle.movements.specs.Movements.{flowUnits}
 use Rattle.segment.specs.declared.Segment.{Segment}
+use Rattle.ranges.specs.Ranges.{Ranges}
 use Rattle.validation.specs.Accepting.{acceptWith, accept-numbers}
 use Rattle.balance_flows.specs.declared.Flows.{Flows}
 use Rattle.balance_flows.specs.declared.FlowTable.{FlowTable}
@@ -76,16 +77,16 @@ rows-fit s e =
 
 -- ---- demand 3 of whatever is worked
 
-pub decided-accurate : (s : Segment) (p : Profiles) (w : Working) (p′ : Profiles) → called w p′ ≡ byDecision s (decisionFor s) p →
+pub decided-accurate : (s : Segment) → Ranges s → (p : Profiles) (w : Working) (p′ : Profiles) → called w p′ ≡ byDecision s (decisionFor s) p →
     (x : Float) → w .outcome ≡ Worked x → Accurate s (w .pairs .rows) p′
 unfolding workedOf
-decided-accurate s p w p′ q x ew =
+decided-accurate s r p w p′ q x ew =
     let d = decisionFor s in
     let eo : d .outcome ≡ Worked x = sym (ap (λ (c : Called). c .answer .outcome) q ∙ decided-outcome s d p) ∙ ew in
     let worked : called w p′ ≡ byOutcome (Worked x) s d p = q ∙ ap (λ (o : Outcome). byOutcome o s d p) eo in
     let rows : w .pairs .rows ≡ d .pairs .rows = ap (λ (c : Called). c .answer .pairs .rows) worked in
     let left : p′ ≡ filledOf s (d .pairs .rows) p = ap (λ (c : Called). c .after) worked in
-    rw (rows, left) (filled-accurate s (d .pairs .rows) p (rows-fit s (ap refusalOf eo)))
+    rw (rows, left) (filled-accurate s (d .pairs .rows) p r (rows-fit s (ap refusalOf eo)))
 
 -- ---- the refusals of the record, and of a call's own tests
 

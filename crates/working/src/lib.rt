@@ -60,8 +60,8 @@ pub fn work_accepted(
     }
 }
 
-// Works a segment record: four runs of C numbers to the output profile, exits in order; the work profiles are left with cycles one
-// and two of the right entry. Where it refuses, nothing is written.
+// Works a segment record: four runs of C numbers to the output profile, exits in order; the first work profile is left with the
+// right entry's last cycle, the second with the one before it. Where it refuses, nothing is written.
 pub fn work(bytes: &[u8], output: &mut [u32], first: &mut [u32], second: &mut [u32]) -> Working
     ensures { λ r. ⌜ Works (now (bytes .entry)) (lent (output .entry) (first .entry) (second .entry)) r (lent (output .exit) (first .exit) (second .exit)) ⌝ }
 {
