@@ -2,18 +2,17 @@
 use Prim.Native.Nat.{ℕ, suc, _+_, _≤_, _<_}
 use native.Mathlib.Numerals.{add-one}
 use native.Mathlib.Omega.{arith}
-use mathlib.Core.Bool.{Bool, true, false, _&&_, cond}
-use mathlib.Core.Logic.{_⊎_, inl, inr}
+use mathlib.Core.Bool.{Bool, true, false, _&&_}
 use mathlib.Core.Path.{_≡_, refl, ap, sym, _∙_}
 use mathlib.Core.List.{List}
-use lib.Dec.{eqb, ltb}
+use lib.Dec.{ltb}
 use lib.ListN.{length}
-use borrow.Author.Tests.{ltb-true, eqb-true}
+use borrow.Author.Tests.{ltb-true}
 use Rattle.dispersion.specs.declared.PlatoonState.{PlatoonState}
 use Rattle.dispersion.specs.Dispersion.{divisorOf, emptyState, stateAfter, Work, work, cycleWorked, cyclesWorked}
 use Rattle.dispersion.specs.Arrivals.{divisor-pos, state-carry}
 use Rattle.dispersion.specs.Cycles.{endOf, cycle-state, state-worked}
-use Rattle.dispersion.specs.Rest.{AtRest, neededOf, rest-skips}
+use Rattle.dispersion.specs.Rest.{AtRest, sameState, neededWhen, neededOf, same-state, rest-skips}
 
 -- k cycles are worked, and those that need working leave what all n do
 pub record Alternating (running : ℕ) (q : List ℕ) (n : ℕ) (f₀ g₀ f g : List ℕ) (s : PlatoonState) (needed k : ℕ) : Type 0 where
@@ -38,31 +37,12 @@ alternate-start running q n f g =
       enough = refl;
     }
 
--- ---- how many are needed after a cycle from s to t: as many as before, or one more where it left the state in which it began
-
-record OneMore (worked cycles : ℕ) (s t : PlatoonState) : Type 0 where
-  more : worked < cycles
-  same : s ≡ t
-  is : neededOf worked cycles s t ≡ suc worked
-
-same-state : (s t : PlatoonState) → s .level ≡ t .level → s .carry ≡ t .carry → s ≡ t
-same-state s t level carry =
-    ap (λ (x : ℕ). record { level = x; carry = s .carry }) level ∙ ap (λ (x : ℕ). record { level = t .level; carry = x }) carry
-
-needed-is : (worked cycles : ℕ) (s t : PlatoonState) → (neededOf worked cycles s t ≡ cycles) ⊎ OneMore worked cycles s t
-unfolding neededOf
-needed-is worked cycles s t = go (ltb worked cycles) (eqb (s .level) (t .level)) (eqb (s .carry) (t .carry)) refl refl refl
-  where
-    go : (a b c : Bool) → ltb worked cycles ≡ a → eqb (s .level) (t .level) ≡ b → eqb (s .carry) (t .carry) ≡ c
-        → (cond (ltb worked cycles && eqb (s .level) (t .level) && eqb (s .carry) (t .carry)) (suc worked) cycles ≡ cycles) ⊎ OneMore worked cycles s t
-    go true true true ea eb ec =
-        let same = same-state s t (eqb-true (s .level) (t .level) eb) (eqb-true (s .carry) (t .carry) ec) in
-        inr (record { more = ltb-true worked cycles ea; same = same; is = rw (ea, eb, ec) })
-    go true true false ea eb ec = inl (rw (ea, eb, ec))
-    go true false c ea eb ec = inl (rw (ea, eb))
-    go false b c ea eb ec = inl (rw ea)
-
 -- ---- a turn: cycle k + 1 from s to t, and how many are needed then
+
+pub record Enough (running : ℕ) (q : List ℕ) (n : ℕ) (f₀ g₀ : List ℕ) (needed k needed′ : ℕ) : Type 0 where
+  pub some : k + 1 ≤ needed′
+  pub fewer : needed′ ≤ needed
+  pub enough : cyclesWorked running q needed′ f₀ g₀ ≡ cyclesWorked running q n f₀ g₀
 
 module _ {running : ℕ} {q : List ℕ} {n : ℕ} {f₀ g₀ f g : List ℕ} {s : PlatoonState} {needed k : ℕ}
     (r : Alternating running q n f₀ g₀ f g s needed k) (more : k < needed) (t : PlatoonState) (f′ g′ : List ℕ) (needed′ : ℕ)
@@ -75,27 +55,30 @@ module _ {running : ℕ} {q : List ℕ} {n : ℕ} {f₀ g₀ f g : List ℕ} {s 
       let is : s ≡ endOf running q k = ap (λ (w : Work). w .state) (r .are) ∙ state-worked running q k f₀ g₀ in
       rw (← is) (sym (same ∙ next-state))
 
-  next-needed : (neededOf (k + 1) needed s t ≡ needed) ⊎ OneMore (k + 1) needed s t
-      → (k + 1 ≤ needed′) × (needed′ ≤ needed) × (cyclesWorked running q needed′ f₀ g₀ ≡ cyclesWorked running q n f₀ g₀)
-  next-needed (inl all) = rw (e′, all) (omega arith, omega arith, r .enough)
-  next-needed (inr o) =
-      let m = o .more in
-      rw (e′, o .is, add-one) (omega arith, omega arith, rest-skips running q k (rests (o .same)) needed f₀ g₀ (omega arith) ∙ r .enough)
+  -- one more where it rests: any number from there on leaves the same
+  next-needed : (a b : Bool) → ltb (k + 1) needed ≡ a → sameState s t ≡ b → Enough running q n f₀ g₀ needed k (neededWhen (a && b) (k + 1) needed)
+  next-needed true true ea eb =
+      let more′ = ltb-true (k + 1) needed ea in
+      let skips = rest-skips running q k (rests (same-state s t eb)) needed f₀ g₀ (omega arith) in
+      rw add-one (record { some = omega arith; fewer = omega arith; enough = skips ∙ r .enough })
+  next-needed true false ea eb = record { some = omega arith; fewer = omega arith; enough = r .enough }
+  next-needed false b ea eb = record { some = omega arith; fewer = omega arith; enough = r .enough }
 
-  pub turn-needed : (k + 1 ≤ needed′) × (needed′ ≤ needed) × (cyclesWorked running q needed′ f₀ g₀ ≡ cyclesWorked running q n f₀ g₀)
-  turn-needed = next-needed (needed-is (k + 1) needed s t)
+  pub turn-needed : Enough running q n f₀ g₀ needed k needed′
+  unfolding neededOf
+  turn-needed = rw e′ (next-needed (ltb (k + 1) needed) (sameState s t) refl refl)
 
   pub turn : length f′ ≡ length f → length g′ ≡ length g → Alternating running q n f₀ g₀ f′ g′ t needed′ (k + 1)
   unfolding cyclesWorked
   turn lf lg =
       record {
-        within = turn-needed .0;
-        no-more = omega (arith, turn-needed .1, r .no-more);
+        within = turn-needed .some;
+        no-more = omega (arith, turn-needed .fewer, r .no-more);
         carried = rw next-state (state-carry running q s (r .carried));
         long-first = lf ∙ r .long-first;
         long-second = lg ∙ r .long-second;
         are = rw (add-one, ← (r .are)) e;
-        enough = turn-needed .2;
+        enough = turn-needed .enough;
       }
 
 -- at the end every cycle that needs working is worked

@@ -7,6 +7,7 @@ use mathlib.Core.Bool.{Bool, true, false, _&&_, cond}
 use mathlib.Core.Path.{_≡_, refl, ap, sym, _∙_}
 use mathlib.Core.List.{List, _++_}
 use lib.Dec.{eqb, ltb}
+use borrow.Author.Tests.{eqb-true}
 use lib.ListN.{length, drop}
 use Rattle.dispersion.specs.declared.PlatoonState.{PlatoonState}
 use Rattle.dispersion.specs.Dispersion.{arrivals, stateAfter, repeated, reported, Work, work, cyclesWorked}
@@ -18,9 +19,26 @@ abbrev pub AtRest : ℕ → List ℕ → PlatoonState → Type 0
 AtRest running q s = stateAfter running q s ≡ s
 
 -- how many cycles need working once so many are: one more, where the last of them left the state in which it began
+unfoldable pub sameState : (before after : PlatoonState) → Bool
+sameState before after = eqb (before .level) (after .level) && eqb (before .carry) (after .carry)
+
+abbrev pub neededWhen : Bool → (worked cycles : ℕ) → ℕ
+neededWhen rests worked cycles = cond rests (suc worked) cycles
+
 unfoldable pub neededOf : (worked cycles : ℕ) → (before after : PlatoonState) → ℕ
-neededOf worked cycles before after =
-    cond (ltb worked cycles && eqb (before .level) (after .level) && eqb (before .carry) (after .carry)) (suc worked) cycles
+neededOf worked cycles before after = neededWhen (ltb worked cycles && sameState before after) worked cycles
+
+-- what the test calls the same is
+pub same-state : (s t : PlatoonState) → sameState s t ≡ true → s ≡ t
+unfolding sameState
+same-state s t e = go (eqb (s .level) (t .level)) (eqb (s .carry) (t .carry)) refl refl e
+  where
+    go : (a b : Bool) → eqb (s .level) (t .level) ≡ a → eqb (s .carry) (t .carry) ≡ b → (a && b) ≡ true → s ≡ t
+    go true true ea eb e =
+        ap (λ (x : ℕ). record { level = x; carry = s .carry }) (eqb-true (s .level) (t .level) ea)
+        ∙ ap (λ (x : ℕ). record { level = t .level; carry = x }) (eqb-true (s .carry) (t .carry) eb)
+    go true false ea eb e = absurd (let z : _≡_ {A = ℕ} 0 1 = cc in omega arith)
+    go false b ea eb e = absurd (let z : _≡_ {A = ℕ} 0 1 = cc in omega arith)
 
 -- cycles from a resting state give the same arrivals, one after the other, and leave the same state
 pub rest-again : (running : ℕ) (q : List ℕ) (s : PlatoonState) → AtRest running q s → (j : ℕ)

@@ -28,7 +28,7 @@ repeating-steps : (n m c : ℕ) (q : ℕ → ℕ) (k : ℕ) → Follows n m (q k
 unfolding repeatingFlow exactNumerator
 repeating-steps n m c q k =
     rw (pow-succ' (n + m) k, pow-succ' m k)
-    (follows-from n m (q k) ((n + m) ^ k) (exactNumerator n m q k) (cycleWeight n m c) (exactNumerator n m q c) (m ^ k))
+    (follows-from n m (q k) ((n + m) ^ k) (exactNumerator n m q k) (cycleWeight n m c) _ (m ^ k))
 
 ends-from : (p r w y : ℕ) → w + r ≡ p → (0 * w + 1 * y) * (p * w) ≡ (y * w + r * y) * (1 * w)
 ends-from p r w y e = omega (arith, ap (λ (z : ℕ). y * w * z) e)

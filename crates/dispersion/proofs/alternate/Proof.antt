@@ -34,7 +34,7 @@ loop-less c =
     let w = cycle-of c in
     let l = test-of w in
     let fewer = turn-needed (l .before .loop .inv) (l .loop-test .taken) _ _ _ _ (w .work-cycle .ensures) (c .cycles-needed .ensures) in
-    omega (arith, fewer .0, fewer .1)
+    omega (arith, fewer .some, fewer .fewer)
 
 loop-again : tie.Need-loop-again Inv-loop μ-loop
 loop-again c =
