@@ -18,7 +18,7 @@ use Rattle.exact_dispersion.specs.ExactDispersion.{ExactFlow, exactReported, de
 use Rattle.exact_dispersion.specs.Repeating.{repeating}
 use Rattle.propagation.specs.Propagation.{Profiles, cyclesBefore, cycles, pairFlow, pairOf, landsIn}
 
--- the exact flow of an entry from an empty segment, over all cycles worked; the other is the repeating flow
+-- the exact flow of an entry that starts empty, over all cycles worked; `repeating` is that of one that was never empty
 abbrev pub fromEmpty : ExactFlow
 fromEmpty = exactReported cycles
 
@@ -70,12 +70,12 @@ FlowsWithin d exact s rows p =
 
 -- the whole demand, of a segment with its sixteen pair flows and the three profiles that a call left
 pub record Accurate (s : Segment) (rows : List (List ℕ)) (p : Profiles) : Type 0 where
-  -- demand 3: six from the flow of a segment that was empty, over all cycles worked
+  -- demand 3: six from the flow that starts empty, over all cycles worked
   pub flows : FlowsWithin 6 fromEmpty s rows p
   -- paper 02, request 2: nine from the repeating flow; and closer than asked, seven
   pub repeats : FlowsWithin 9 repeating s rows p
   pub closer : FlowsWithin 7 repeating s rows p
-  -- it is access's v and what the pairs land there, whose sums `shared` bounds
+  -- an exit's flow is access's v and what the pairs land there, whose sums `shared` bounds
   pub landed : (exit step : ℕ) → exit < 4 → 0 < step → step ≤ s .cycle → outputAt s p exit step
       ≡ pairFlow rows 3 exit
       + landsIn s (s .left) (pairFlow rows 0 exit) step

@@ -40,7 +40,7 @@ PointsWithin d exact s ps passing =
     Within d (numberAt (runAt (s .cycle) i passing) step) (exactPoint exact s (pointAt ps i) step)
 
 pub record PointsAccurate (s : Segment) (ps : Points) (passing : List ℕ) : Type 0 where
-  -- three from the flow of a segment that was empty, over all cycles worked
+  -- three from the flow that starts empty, over all cycles worked
   pub flows : PointsWithin 3 fromEmpty s ps passing
   -- paper 02, request 2: six from the repeating flow; and closer than asked, four
   pub repeats : PointsWithin 6 repeating s ps passing
