@@ -46,7 +46,7 @@ pub record Enough (running : ℕ) (q : List ℕ) (n : ℕ) (f₀ g₀ : List ℕ
 
 module _ {running : ℕ} {q : List ℕ} {n : ℕ} {f₀ g₀ f g : List ℕ} {s : PlatoonState} {needed k : ℕ}
     (r : Alternating running q n f₀ g₀ f g s needed k) (more : k < needed) (t : PlatoonState) (f′ g′ : List ℕ) (needed′ : ℕ)
-    (e : work t f′ g′ ≡ cycleWorked running q k (work s f g)) (e′ : needed′ ≡ neededOf (k + 1) needed s t) where
+    (e : work t f′ g′ ≡ cycleWorked running q k (work s f g)) (e′ : needed′ ≡ neededOf (k + 1) 1 needed s t) where
   next-state : t ≡ stateAfter running q s
   next-state = ap (λ (w : Work). w .state) e ∙ cycle-state running q k (work s f g)
 
@@ -56,11 +56,12 @@ module _ {running : ℕ} {q : List ℕ} {n : ℕ} {f₀ g₀ f g : List ℕ} {s 
       rw (← is) (sym (same ∙ next-state))
 
   -- one more where it rests: any number from there on leaves the same
-  next-needed : (a b : Bool) → ltb (k + 1) needed ≡ a → sameState s t ≡ b → Enough running q n f₀ g₀ needed k (neededWhen (a && b) (k + 1) needed)
+  next-needed : (a b : Bool) → ltb (k + 1) needed ≡ a → sameState s t ≡ b → Enough running q n f₀ g₀ needed k (neededWhen (a && b) (k + 1) 1 needed)
   next-needed true true ea eb =
       let more′ = ltb-true (k + 1) needed ea in
       let skips = rest-skips running q k (rests (same-state s t eb)) needed f₀ g₀ (omega arith) in
-      rw add-one (record { some = omega arith; fewer = omega arith; enough = skips ∙ r .enough })
+      let two : k + 1 + 1 ≡ suc (suc k) = omega arith in
+      record { some = omega arith; fewer = omega arith; enough = ap (λ (m : ℕ). cyclesWorked running q m f₀ g₀) two ∙ skips ∙ r .enough }
   next-needed true false ea eb = record { some = omega arith; fewer = omega arith; enough = r .enough }
   next-needed false b ea eb = record { some = omega arith; fewer = omega arith; enough = r .enough }
 

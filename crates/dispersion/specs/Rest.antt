@@ -1,5 +1,5 @@
--- A segment at rest: once a cycle leaves the state in which it began, every later one is the same, number for number. So one more, for the
--- other work profile, is all that needs working.
+-- A segment at rest: once a cycle leaves the state in which it began, every later one is the same, number for number. So one more, where
+-- two profiles are to hold it, is all that needs working.
 use Prim.Native.Nat.{ℕ, zero, suc, _+_, _%_, _≤_}
 use native.Mathlib.Nat.{le-dest}
 use native.Mathlib.Omega.{arith}
@@ -18,15 +18,16 @@ use Rattle.dispersion.specs.Cycles.{endOf, end-next, end-after, reported
 abbrev pub AtRest : ℕ → List ℕ → PlatoonState → Type 0
 AtRest running q s = stateAfter running q s ≡ s
 
--- how many cycles need working once so many are: one more, where the last of them left the state in which it began
+-- how many cycles need working once so many are: where the last of them left the state in which it began, as many more as other profiles
+-- are to hold it
 unfoldable pub sameState : (before after : PlatoonState) → Bool
 sameState before after = eqb (before .level) (after .level) && eqb (before .carry) (after .carry)
 
-abbrev pub neededWhen : Bool → (worked cycles : ℕ) → ℕ
-neededWhen rests worked cycles = cond rests (suc worked) cycles
+abbrev pub neededWhen : Bool → (worked others cycles : ℕ) → ℕ
+neededWhen rests worked others cycles = cond rests (worked + others) cycles
 
-unfoldable pub neededOf : (worked cycles : ℕ) → (before after : PlatoonState) → ℕ
-neededOf worked cycles before after = neededWhen (ltb worked cycles && sameState before after) worked cycles
+unfoldable pub neededOf : (worked others cycles : ℕ) → (before after : PlatoonState) → ℕ
+neededOf worked others cycles before after = neededWhen (ltb worked cycles && sameState before after) worked others cycles
 
 -- what the test calls the same is
 pub same-state : (s t : PlatoonState) → sameState s t ≡ true → s ≡ t
@@ -63,6 +64,14 @@ module _ (running : ℕ) (q : List ℕ) (k : ℕ) (h : AtRest running q (endOf r
 
   pub rest-reported : (j : ℕ) → reported running q (suc (k + j)) ≡ arrivals running q (endOf running q k)
   rest-reported j = reported-is running q (k + j) ∙ ap (arrivals running q) (rest-end j)
+
+  pub rest-same : (n : ℕ) → suc k ≤ n → reported running q (suc k) ≡ reported running q n
+  rest-same n more = go (le-dest more)
+    where
+      go : (j : ℕ) × (suc k + j ≡ n) → reported running q (suc k) ≡ reported running q n
+      go (j, e) =
+          let all : n ≡ suc (k + j) = omega arith in
+          reported-is running q k ∙ sym (rw all (rest-reported j))
 
   rest-held : (f g : List ℕ) (j : ℕ) (b : Bool) → heldAfter running q f g (k + j) b ≡ bothHold running q (endOf running q k) f g
   rest-held f g j b =

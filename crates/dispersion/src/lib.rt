@@ -6,6 +6,7 @@ ghost use lib.ListN.{length};
 ghost use Rattle.limits.specs.Limits.{mostRunning};
 ghost use Rattle.dispersion.specs.Dispersion.{divisorOf, arrivalTimeOf, stepOf, stateAfter, cycleWritten};
 ghost use Rattle.dispersion.specs.Dispersion.{work, cycleWorked, cyclesWorked, firstHolds, lastPart};
+ghost use Rattle.dispersion.specs.Cycles.{held};
 ghost use Rattle.dispersion.specs.Rest.{neededOf};
 
 // The numerator of the smoothing factor (N of the paper); the divisor stands under it.
@@ -93,12 +94,19 @@ fn work_cycle(
 }
 
 // How many cycles need working once so many are. Where the last of them left the state in which it began,
-// every later one is the same: one more, for the other profile, and the rest need not be worked.
-fn cycles_needed(worked: u32, cycles: u32, before: PlatoonState, after: PlatoonState) -> u32
-    ensures { λ r. ⌜ r ≡ neededOf worked cycles before after ⌝ }
+// every later one is the same: as many more as other profiles are to hold it, and the rest need not be worked.
+fn cycles_needed(
+    worked: u32,
+    others: u32,
+    cycles: u32,
+    before: PlatoonState,
+    after: PlatoonState,
+) -> u32
+    requires { ⌜ others ≤ 1 ⌝ }
+    ensures { λ r. ⌜ r ≡ neededOf worked others cycles before after ⌝ }
 {
     if worked < cycles && before.level == after.level && before.carry == after.carry {
-        return worked + 1;
+        return worked + others;
     }
     cycles
 }
@@ -124,10 +132,29 @@ pub fn alternate(
     while k < needed {
         let next = work_cycle(running, discharge, first, second, k, state);
         k += 1;
-        needed = cycles_needed(k, needed, state, next);
+        needed = cycles_needed(k, 1, needed, state, next);
         state = next;
     }
     state
+}
+
+// The last of so many cycles from an empty segment, each over the one before it in one profile. It ends once
+// the segment rests.
+pub fn disperse_last(running: u32, discharge: &[u32], profile: &mut [u32], cycles: u32)
+    requires { ⌜ running ≤ mostRunning ⌝ }
+    requires { ⌜ length (now discharge) ≤ length (now profile) ⌝ }
+    requires { ⌜ 0 < cycles ⌝ }
+    ensures { λ _. ⌜ now (profile .exit) ≡ held running (now (discharge .entry)) cycles (now (profile .entry)) ⌝ }
+{
+    let mut state = PlatoonState { level: 0, carry: 0 };
+    let mut needed = cycles;
+    let mut k: u32 = 0;
+    while k < needed {
+        let next = disperse(running, discharge, profile, state);
+        k += 1;
+        needed = cycles_needed(k, 0, needed, state, next);
+        state = next;
+    }
 }
 
 // Whether the first profile holds the last of so many cycles; otherwise the second does.

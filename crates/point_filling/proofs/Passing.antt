@@ -4,9 +4,9 @@ use native.Mathlib.Omega.{arith}
 use native.Mathlib.Nat.{sub-zero}
 use mathlib.Core.Bool.{Bool, true, false}
 use mathlib.Core.Path.{_≡_, refl, sym, _∙_}
-use mathlib.Core.List.{List, _++_}
+use mathlib.Core.List.{List, _++_, append-assoc}
 use lib.Dec.{ltb}
-use lib.ListN.{length, take, drop, getD, replicate, List·getD-eq-default}
+use lib.ListN.{length, take, drop, getD, replicate, length-append, List·getD-eq-default}
 use lib.Seq.{take-at}
 use borrow.Author.Tests.{ltb-true, ltb-false}
 use Rattle.limits.specs.Limits.{mostCycle, mostRunning, stepBound}
@@ -19,10 +19,9 @@ use Rattle.segment.specs.declared.Segment.{Segment}
 use Rattle.ranges.specs.Ranges.{Ranges, EntryRanges}
 use Rattle.entries.specs.Entries.{entryProfile, EntryRuns}
 use Rattle.entries.specs.Laws.{entry-length, entry-le}
-use Rattle.dispersion.specs.declared.PlatoonState.{PlatoonState}
-use Rattle.dispersion.specs.Dispersion.{work, arrivalTimeOf, reported, cyclesWorked, lastPart}
+use Rattle.dispersion.specs.Dispersion.{arrivalTimeOf, reported}
 use Rattle.dispersion.specs.Arrivals.{arrival-time-small}
-use Rattle.dispersion.specs.Cycles.{last-part, reported-length, reported-le}
+use Rattle.dispersion.specs.Cycles.{reported-length, held, reported-le}
 use Rattle.arrivals.specs.Arrivals.{arrivalLimit, runLimit, LandsFit}
 use Rattle.propagation.specs.Propagation.{cyclesBefore, cycles}
 use Rattle.points.specs.declared.Point.{Point}
@@ -31,18 +30,22 @@ use Rattle.point_filling.specs.Steps.{PassFits}
 
 -- ---- one entry
 
-module _ (running : ℕ) (q f g : List ℕ) {st : PlatoonState} {f′ g′ : List ℕ} (e : work st f′ g′ ≡ cyclesWorked running q cycles f g)
-    (whole-f : length f′ ≡ mostCycle) (whole-g : length g′ ≡ mostCycle) (rest-f rest-g : List ℕ) {part : List ℕ}
-    (last : part ≡ lastPart (take mostCycle (f′ ++ rest-f)) (take mostCycle (g′ ++ rest-g)) cycles (length q)) {t : ℕ} (time : t ≡ arrivalTimeOf running) where
-  -- the part handed back is the reported cycle
-  part-is : part ≡ reported running q cycles
-  part-is = last ∙ rw (take-at f′ rest-f mostCycle whole-f, take-at g′ rest-g mostCycle whole-g) (last-part running q cyclesBefore f g e)
+-- in front of the array after its cycles were worked there: x is what the array was lent with, rest what stands behind
+module _ (running : ℕ) (q x : List ℕ) {ys : List ℕ} (made : ys ≡ held running q cycles x) (rest : List ℕ) where
+  long : length (reported running q cycles) ≡ length q
+  long = reported-length running q cyclesBefore
 
-  pub pass-lands : {run : List ℕ} → PassFits running q run → LandsFit t part run
-  pass-lands h =
+  pub front-long : length q ≤ length (ys ++ rest)
+  front-long = rw made (simp length-append (omega (arith, long)))
+
+  part-is : take (length q - 0) (ys ++ rest) ≡ reported running q cycles
+  part-is = rw (made, sub-zero, append-assoc) (take-at (reported running q cycles) (drop (length q) x ++ rest) (length q) long)
+
+  pub pass-lands : {t : ℕ} → t ≡ arrivalTimeOf running → {run : List ℕ} → PassFits running q run → LandsFit t (take (length q - 0) (ys ++ rest)) run
+  pass-lands time h =
       rw (part-is, time)
       (record {
-        long = reported-length running q cyclesBefore ∙ h .long;
+        long = long ∙ h .long;
         some = h .some;
         cycle = h .cycle;
         time = arrival-time-small running (h .time);
@@ -50,9 +53,9 @@ module _ (running : ℕ) (q f g : List ℕ) {st : PlatoonState} {f′ g′ : Lis
         small = h .sums;
       })
 
-  pub pass-done : (run : List ℕ) {run′ : List ℕ} → run′ ≡ added (length run) t 1 part run →
+  pub pass-done : {t : ℕ} → t ≡ arrivalTimeOf running → (run : List ℕ) {run′ : List ℕ} → run′ ≡ added (length run) t 1 (take (length q - 0) (ys ++ rest)) run →
       run′ ≡ added (length run) (arrivalTimeOf running) 1 (reported running q cycles) run
-  pass-done run er = er ∙ rw (part-is, time)
+  pass-done time run er = er ∙ rw (part-is, time)
 
 -- ---- the three discharges, as a point takes them
 

@@ -12,29 +12,17 @@ use points::Points;
 use segment::Segment;
 
 // One entry: its discharge dispersed by the point's running time, its whole arrivals added to the point's run where they land. The
-// cycles stand in arrays of their own, so that the working's profiles keep the record's.
+// cycles stand in an array of their own, so that the working's profiles keep the record's.
 fn pass(running: u32, discharge: &[u32], run: &mut [u32])
     requires { ⌜ PassFits running (now discharge) (now run) ⌝ }
     ensures { λ _. ⌜ now (run .exit)
         ≡ added (length (now (run .entry))) (arrivalTimeOf running) 1 (reported running (now (discharge .entry)) cycles) (now (run .entry)) ⌝ }
 {
-    let mut first = [0u32; limits::CYCLE_ROOM];
-    let mut second = [0u32; limits::CYCLE_ROOM];
+    let c = discharge.len();
     let cycles = propagation::CYCLES;
-    dispersion::alternate(
-        running,
-        discharge,
-        &mut first[0..limits::CYCLE_ROOM],
-        &mut second[0..limits::CYCLE_ROOM],
-        cycles,
-    );
-    let part = dispersion::last_cycle(
-        &first[0..limits::CYCLE_ROOM],
-        &second[0..limits::CYCLE_ROOM],
-        cycles,
-        discharge.len(),
-    );
-    arrivals::add_whole(part, dispersion::arrival_time(running), run);
+    let mut arrived = [0u32; limits::CYCLE_ROOM];
+    dispersion::disperse_last(running, discharge, &mut arrived[0..c], cycles);
+    arrivals::add_whole(&arrived[0..c], dispersion::arrival_time(running), run);
 }
 
 // One point: access begins its run, then each signalised entry passes. Its blocked steps, by its own headway.
@@ -77,12 +65,16 @@ fn fill_each(
     blocked
 }
 
-// Fills a run for each of the points given and counts its blocked steps. Each entry's discharge is made once, for all points.
+// Fills a run for each of the points given and counts its blocked steps. Each entry's discharge is made once, for all points, and
+// not at all where none is given.
 pub fn fill(s: Segment, points: Points, out: &mut [u32]) -> [u32; points::POINT_ROOM]
     requires { ⌜ FillFits s points (now out) ⌝ }
     ensures { λ _. ⌜ now (out .exit) ≡ pointRuns s (given points) (now (out .entry)) ⌝ }
     ensures { λ r. ⌜ r ≡ pointCounts s (given points) ⌝ }
 {
+    if points.count == 0 {
+        return [0u32; points::POINT_ROOM];
+    }
     let mut discharges = [0u32; limits::DISCHARGE_ROOM];
     entries::fill_profiles(
         s,

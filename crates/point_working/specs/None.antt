@@ -17,6 +17,7 @@ use Rattle.propagation.specs.Propagation.{Profiles}
 use Rattle.working.specs.Working as working
 use Rattle.points.specs.declared.Points.{Points}
 use Rattle.points.specs.Points.{given, allFit}
+use Rattle.points.specs.Laws.{none-given}
 use Rattle.point_flows.specs.Laws.{no-runs, no-counts}
 use Rattle.point_working.specs.declared.PointWorking.{PointWorking}
 use Rattle.point_working.specs.PointWorking.{pointTests, acceptOf, noneBlocked, answered, PointCalled, pointCalled}
@@ -31,10 +32,6 @@ and-true true = refl
 and-true false = refl
 
 module _ (ps : Points) (none : ps .count ≡ 0) where
-  none-given : given ps ≡ []
-  unfolding given
-  none-given = rw none
-
   -- no profile is too short for no runs
   room : (c n : ℕ) → leb (c * ps .count) n ≡ true
   room c n = let e : c * ps .count ≡ c * 0 = ap (λ (m : ℕ). c * m) none in le-leb (c * ps .count) n (omega arith)
@@ -42,7 +39,7 @@ module _ (ps : Points) (none : ps .count ≡ 0) where
   -- 19 and 20 hold, and 16 is that of the other three profiles
   tests-none : (o q f g : ℕ) (s : Segment) → firstFailing (pointTests ps o q f g s) s ≡ firstFailing (test 16 (working.fits o f g s) ∷ []) s
   unfolding need allFit
-  tests-none o q f g s = rw (none-given, room (s .cycle) q, and-true, none)
+  tests-none o q f g s = rw (none-given ps none, room (s .cycle) q, and-true, none)
 
   accepts-none : (l : List ℕ) (o q f g : ℕ) → acceptOf l ps o q f g ≡ working.acceptOf l o f g
   unfolding acceptWith
@@ -55,12 +52,12 @@ module _ (ps : Points) (none : ps .count ≡ 0) where
 
   -- no run is written, and none is counted: so the call is the call without, whatever the outcome
   passing-none : (s : Segment) (o : Outcome) (q : List ℕ) → passingAfter o s ps q ≡ q
-  passing-none s (Worked sum) q = rw none-given (no-runs s q)
+  passing-none s (Worked sum) q = rw (none-given ps none) (no-runs s q)
   passing-none s (Refused number) q = cc
   passing-none s (Unsettled sum) q = cc
 
   counts-none : (s : Segment) (o : Outcome) → countsAfter o s ps ≡ noneBlocked
-  counts-none s (Worked sum) = rw none-given (no-counts s)
+  counts-none s (Worked sum) = rw (none-given ps none) (no-counts s)
   counts-none s (Refused number) = cc
   counts-none s (Unsettled sum) = cc
 

@@ -12,11 +12,16 @@ use borrow.Author.Tests.{leb-true}
 use Rattle.limits.specs.Limits.{leastRunning, leastHeadway, mostHeadway}
 use Rattle.refusal.specs.Refusal.{both}
 use Rattle.points.specs.declared.Point.{Point}
-use Rattle.points.specs.Points.{pointFits, allFit}
+use Rattle.points.specs.declared.Points.{Points}
+use Rattle.points.specs.Points.{given, pointFits, allFit}
 
 -- an array of structs has as many as the array of what they are stored as
 pub mapped-length : {A B : Type 0} (f : A → B) (l : List A) {n : ℕ} → length (map f l) ≡ n → length l ≡ n
 mapped-length f l e = sym (length-map l f) ∙ e
+
+pub none-given : (ps : Points) → ps .count ≡ 0 → given ps ≡ []
+unfolding given
+none-given ps none = rw none
 
 -- the first n places, n no more than there are
 module _ (at : List Point) (n : ℕ) (room : n ≤ length at) where
