@@ -1,5 +1,5 @@
 -- Demand 3: how near a working in whole flow units stays to the exact ones, what its dispersion keeps, and what its pairs have of their entry.
-use Prim.Native.Nat.{ℕ, _+_, _-_, _*_, _≤_, _<_}
+use Prim.Native.Nat.{ℕ, _+_, _-_, _≤_, _<_}
 use mathlib.Core.Path.{_≡_}
 use mathlib.Core.List.{List}
 use lib.ListN.{take, getD}

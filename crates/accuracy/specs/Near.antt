@@ -1,5 +1,5 @@
 -- Each signalised entry's arrivals are near an exact flow: what the distances of exits and of points follow from.
-use Prim.Native.Nat.{ℕ, suc, _+_, _*_, _^_, _≤_, _<_}
+use Prim.Native.Nat.{ℕ, _+_, _*_, _^_, _≤_, _<_}
 use native.Mathlib.Omega.{arith}
 use lib.ListN.{length}
 use Rattle.limits.specs.Limits.{leastCycle, mostRunning, flowLimit}

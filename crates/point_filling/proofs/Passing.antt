@@ -9,7 +9,7 @@ use lib.Dec.{ltb}
 use lib.ListN.{length, take, drop, getD, replicate, length-append, List·getD-eq-default}
 use lib.Seq.{take-at}
 use borrow.Author.Tests.{ltb-true, ltb-false}
-use Rattle.limits.specs.Limits.{mostCycle, mostRunning, stepBound}
+use Rattle.limits.specs.Limits.{mostRunning, stepBound}
 use Rattle.lists.specs.Lists.{tab, tab-length, tab-at, tab-constant}
 use Rattle.movements.specs.Movements.{flowUnits}
 use Rattle.signal.specs.Turn.{earlier}

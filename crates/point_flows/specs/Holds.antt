@@ -5,7 +5,7 @@ use native.Mathlib.Omega.{arith}
 use mathlib.Core.Bool.{true}
 use mathlib.Core.Path.{_≡_, refl, ap}
 use mathlib.Core.List.{List}
-use lib.ListN.{length, take, getD}
+use lib.ListN.{length, take}
 use Rattle.limits.specs.Limits.{mostRunning}
 use Rattle.movements.specs.Movements.{flowUnits}
 use Rattle.signal.specs.Turn.{earlier, earlier-pos, earlier-le}

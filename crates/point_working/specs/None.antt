@@ -16,7 +16,7 @@ use Rattle.balance_decision.specs.declared.Outcome.the-variants.{Worked, Refuse
 use Rattle.propagation.specs.Propagation.{Profiles}
 use Rattle.working.specs.Working as working
 use Rattle.points.specs.declared.Points.{Points}
-use Rattle.points.specs.Points.{given, allFit}
+use Rattle.points.specs.Points.{allFit}
 use Rattle.points.specs.Laws.{none-given}
 use Rattle.point_flows.specs.Laws.{no-runs, no-counts}
 use Rattle.point_working.specs.declared.PointWorking.{PointWorking}

@@ -1,5 +1,4 @@
 -- Dispersed into the front of an array of the longest cycle, then landed whole.
-use mathlib.Core.Path.{_≡_}
 use Rattle.point_filling.proofs.Passing.{front-long, pass-lands, pass-done}
 use borrow.Author.Needs.{needs}
 use Rattle.point_filling.proofs.pass.Statement.{statement}
