@@ -36,6 +36,13 @@ pub fn fill_discharge(entry: &Entry, profile: &mut [u32]) {
     }
 }
 
+/// The discharge of one entry over one cycle.
+pub fn entry_discharge(entry: &Entry, cycle: u32) -> Vec<u32> {
+    let mut profile = vec![0; cycle as usize];
+    fill_discharge(entry, &mut profile);
+    profile
+}
+
 /// The discharge call: three profiles of C numbers to one profile; the three volumes.
 pub fn discharge(bytes: &[u8], profile: &mut [u32]) -> Result<[u32; 3], Refusal> {
     let record = decode(bytes)?;

@@ -1,5 +1,6 @@
-//! Reference implementation of paper 01 and of the points of paper 02, written from the papers alone.
+//! Reference implementation of paper 01, and of the points and the repeating flow of paper 02, written from the papers alone.
 
+pub mod accuracy;
 pub mod archive;
 pub mod arrivals;
 pub mod balance;

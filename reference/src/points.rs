@@ -2,7 +2,7 @@
 
 use crate::arrivals::{blocked_steps, landed};
 use crate::discharge::UNITS;
-use crate::dispersion::{arrival_time, Link};
+use crate::dispersion::{arrival_time, Ending, Link};
 use crate::record::{decode, Record, ACCESS, HEADWAYS, RUNNING_TIME_LEAST};
 use crate::refusal::{self, Refusal};
 use crate::working::{check_lengths, decide, write, Refused, Working};
@@ -60,6 +60,20 @@ pub fn work_points(
     first: &mut [u32],
     second: &mut [u32],
 ) -> Result<PointWorking, Refused> {
+    let ending = Ending::AllCycles;
+    work_points_ending(bytes, points, ending, output, passing, first, second)
+}
+
+/// As `work_points`, with a choice of how many cycles are worked.
+pub fn work_points_ending(
+    bytes: &[u8],
+    points: &Points,
+    ending: Ending,
+    output: &mut [u32],
+    passing: &mut [u32],
+    first: &mut [u32],
+    second: &mut [u32],
+) -> Result<PointWorking, Refused> {
     let record = decode(bytes)?;
     let given = points.given(&record)?;
     check_lengths(&record, output, first, second)?;
@@ -68,17 +82,17 @@ pub fn work_points(
     let runs = runs.ok_or(refusal::PROFILE)?;
     let decision = decide(&record)?;
     runs.fill(UNITS * decision.volumes[ACCESS]);
-    let add = |leaving: &[u32]| add_entry(leaving, given, runs);
-    let working = write(&record, &decision, output, first, second, add);
+    let add = |leaving: &[u32]| add_entry(leaving, given, ending, runs);
+    let working = write(&record, &decision, ending, output, first, second, add);
     let blocked = blocked_at(given, runs, cycle);
     Ok(PointWorking { working, blocked })
 }
 
 /// Adds all of one entry's arrivals to the run of each point, dispersed and landed by the point's running time.
-fn add_entry(leaving: &[u32], points: &[Point], runs: &mut [u32]) {
+fn add_entry(leaving: &[u32], points: &[Point], ending: Ending, runs: &mut [u32]) {
     for (point, run) in points.iter().zip(runs.chunks_exact_mut(leaving.len())) {
         let shift = arrival_time(point.running);
-        let mut link = Link::before_last(leaving, point.running);
+        let mut link = Link::before_last(leaving, point.running, ending);
         for (place, &leaving) in landed(run, shift).zip(leaving) {
             *place += link.step(leaving);
         }

@@ -3,9 +3,10 @@
 use std::io::Write;
 
 use crate::archive::read;
+use crate::dispersion::Ending;
 use crate::record::{read_u16, CYCLE_AT, CYCLE_MOST};
 use crate::refusal::{self, Refusal};
-use crate::working::{work, Working};
+use crate::working::{work_ending, Working};
 
 /// Input longer than this is refused whatever it holds.
 pub const INPUT_MOST: usize = 65536;
@@ -17,6 +18,11 @@ const STEPS: usize = CYCLE_MOST as usize;
 
 /// Appends the report of an archive to `text`.
 pub fn report(input: &[u8], text: &mut Vec<u8>) {
+    report_ending(input, Ending::AllCycles, text);
+}
+
+/// As `report`, with a choice of how many cycles are worked.
+pub fn report_ending(input: &[u8], ending: Ending, text: &mut Vec<u8>) {
     if input.len() > INPUT_MOST {
         return refuse(text, refusal::ARCHIVE_TRAILER);
     }
@@ -30,7 +36,7 @@ pub fn report(input: &[u8], text: &mut Vec<u8>) {
     for place in archive.records() {
         let number = archive.number_at(place);
         let record = archive.record_at(place);
-        match work(record, &mut output, &mut first, &mut second) {
+        match work_ending(record, ending, &mut output, &mut first, &mut second) {
             Ok(working) => write_working(text, number, read_u16(record, CYCLE_AT), &working),
             Err(refused) => print(
                 text,

@@ -99,6 +99,15 @@ pub fn random_record(random: &mut Random, cycle: u32) -> RecordBytes {
     record
 }
 
+/// A random record in range, of this running time if one is given.
+pub fn random_street(random: &mut Random, cycle: u32, running_time: Option<u32>) -> RecordBytes {
+    let mut record = random_record(random, cycle);
+    if let Some(time) = running_time {
+        put_u32(&mut record, RUNNING_TIME_AT, time);
+    }
+    record
+}
+
 fn random_entry(random: &mut Random, cycle: u32) -> EntryFields {
     let volume = match random.below(8) {
         0 => 0,

@@ -3,7 +3,7 @@
 use crate::arrivals::{add_pair, blocked_steps, exit_figures, total, ExitFigures};
 use crate::balance::{balance, check_volumes, pair_flows, Outcome, PairFlows, ROUND_LIMIT};
 use crate::discharge::fill_discharge;
-use crate::dispersion::{arrival_time, disperse};
+use crate::dispersion::{arrival_time, disperse, Ending};
 use crate::metering::discharge_volumes;
 use crate::record::{decode, Record, ACCESS, CYCLE_MOST, LEFT, RIGHT, THROUGH};
 use crate::refusal::{self, Refusal};
@@ -83,6 +83,7 @@ pub(crate) fn decide(record: &Record) -> Result<Decision, Refused> {
 fn fill(
     record: &Record,
     decision: &Decision,
+    ending: Ending,
     output: &mut [u32],
     first: &mut [u32],
     second: &mut [u32],
@@ -96,7 +97,7 @@ fn fill(
     for (i, entry) in record.entries.iter().enumerate() {
         fill_discharge(entry, leaving);
         see_discharge(leaving);
-        let arrivals = disperse(leaving, record.running_time, first, second);
+        let arrivals = disperse(leaving, record.running_time, ending, first, second);
         let (flows, volume) = (&decision.flows[i], decision.volumes[i]);
         add_entry(arrivals, flows, volume, shift, output);
     }
@@ -123,16 +124,31 @@ pub fn work(
     first: &mut [u32],
     second: &mut [u32],
 ) -> Result<Working, Refused> {
+    work_ending(bytes, Ending::AllCycles, output, first, second)
+}
+
+/// As `work`, with a choice of how many cycles are worked.
+pub fn work_ending(
+    bytes: &[u8],
+    ending: Ending,
+    output: &mut [u32],
+    first: &mut [u32],
+    second: &mut [u32],
+) -> Result<Working, Refused> {
     let record = decode(bytes)?;
     check_lengths(&record, output, first, second)?;
     let decision = decide(&record)?;
-    Ok(write(&record, &decision, output, first, second, |_| ()))
+    let unseen = |_: &[u32]| ();
+    Ok(write(
+        &record, &decision, ending, output, first, second, unseen,
+    ))
 }
 
 /// Writes what was decided and gives the figures; `see_discharge` is shown each entry's discharge in turn.
 pub(crate) fn write(
     record: &Record,
     decision: &Decision,
+    ending: Ending,
     output: &mut [u32],
     first: &mut [u32],
     second: &mut [u32],
@@ -141,7 +157,15 @@ pub(crate) fn write(
     let cycle = record.cycle as usize;
     let output = &mut output[..4 * cycle];
     let (first, second) = (&mut first[..cycle], &mut second[..cycle]);
-    fill(record, decision, output, first, second, see_discharge);
+    fill(
+        record,
+        decision,
+        ending,
+        output,
+        first,
+        second,
+        see_discharge,
+    );
     figures(record, decision, output)
 }
 

@@ -4,7 +4,7 @@ use reference::archive::{add, EMPTY};
 use reference::arrivals::{blocked, PairShare};
 use reference::balance::{balance, check_volumes, Outcome, ROUND_LIMIT};
 use reference::discharge::{discharge, received_by};
-use reference::dispersion::{arrival_time, Link};
+use reference::dispersion::{arrival_time, disperse_cycles, Ending, Link};
 use reference::greens::{Green, Post, Step};
 use reference::metering::capacity;
 use reference::record::{Seeds, DEFAULT_SEEDS};
@@ -84,15 +84,17 @@ fn discharge_of_the_example() {
     }
 }
 
+/// A figure from empty: by the link itself, and by the first of the cycles worked from the record's discharge.
 #[test]
 fn first_two_arrivals() {
     let mut link = Link::empty(40000);
     assert_eq!((link.step(1_800_000), link.carry), (263_350, 1_375_000));
     assert_eq!((link.step(1_800_000), link.carry), (488_171, 607_500));
-    let mut record = with_entry(2);
-    put(&mut record, 40, 600);
-    let (mut output, mut first, mut second) = ([0; 240], [0; 60], [0; 60]);
-    work(&record, &mut output, &mut first, &mut second).unwrap();
+    let mut leaving = [0; 180];
+    discharge(&with_entry(0), &mut leaving).unwrap();
+    let (mut first, mut second) = ([0; 60], [0; 60]);
+    let all = Ending::AllCycles;
+    disperse_cycles(&leaving[..60], 40000, 1, all, &mut first, &mut second);
     assert_eq!(first[..2], [263_350, 488_171]);
 }
 

@@ -1,13 +1,12 @@
-//! The working with points: what it writes, what it leaves, its refusals, its distance from the exact working.
+//! The working with points: what it writes, what it leaves, its refusals.
 
 use reference::discharge::discharge;
-use reference::exact::check_points;
 use reference::points::{work_points, Point, PointWorking, Points};
 use reference::random::Random;
 use reference::record::{decode, ACCESS_AT, HEADWAY_AT, RUNNING_TIME_AT};
 use reference::samples::{
-    busy, good_points, put_entry, put_exits, put_seeds, put_u16, put_u32, quiet, random_points,
-    random_record, RecordBytes,
+    busy, put_entry, put_exits, put_seeds, put_u16, put_u32, quiet, random_points, random_record,
+    RecordBytes,
 };
 use reference::vectors::discharge::refused_by_volume;
 use reference::vectors::faults::faults;
@@ -241,10 +240,10 @@ fn run_at(record: &RecordBytes, running: u64, cycle: usize) -> Vec<u32> {
     let mut run = vec![1000 * access; cycle];
     for entry in leaving.chunks_exact(cycle) {
         let (mut level, mut carry) = (0, 0);
-        for k in 0..2 * cycle {
+        for k in 0..65 * cycle {
             let made = 500_000 * u64::from(entry[k % cycle]) + (divisor - 500_000) * level + carry;
             (level, carry) = (made / divisor, made % divisor);
-            if k >= cycle {
+            if k >= 64 * cycle {
                 run[(k + shift) % cycle] += level as u32;
             }
         }
@@ -315,64 +314,4 @@ fn largest_flow() {
     assert_eq!(answer.unwrap().blocked[0], 30);
     let most = after[1][..30].iter().max().unwrap();
     assert!((41_000_000..=42_000_000).contains(most), "{most}");
-}
-
-/// Checks accepted records of a cycle in this range, with 1 to `given` points in turn; all steps of all points.
-fn check_distance(seed: u64, records: u32, least: u32, most: u32, given: u32) {
-    let mut random = Random::new(seed);
-    let mut checked = 0;
-    while checked < records {
-        let cycle = random.between(least, most);
-        let bytes = random_record(&mut random, cycle);
-        let record = decode(&bytes).unwrap();
-        let points = good_points(&mut random, checked % given + 1, record.running_time);
-        let (result, after) = worked(&bytes, &points, exact(cycle as usize));
-        if result.is_ok() {
-            let at = &points.at[..points.count as usize];
-            assert_eq!(check_points(&record, at, &after[1]), Ok(()), "{bytes:?}");
-            checked += 1;
-        }
-    }
-}
-
-#[test]
-fn within_three_in_short_cycles() {
-    check_distance(73, 1000, 30, 60, 8);
-}
-
-#[test]
-fn within_three_in_long_cycles() {
-    check_distance(74, 60, 61, 239, 4);
-    check_distance(75, 24, 240, 240, 8);
-}
-
-/// The check can fail: a flow added or taken, access left out, another point's run, a step late.
-#[test]
-fn the_distance_can_fail() {
-    let bytes = busy(30);
-    let record = decode(&bytes).unwrap();
-    let mut points = Points { count: 2, ..EIGHT };
-    points.at[1].running = 31000;
-    let (_, after) = worked(&bytes, &points, exact(30));
-    let good = &after[1][..60];
-    let check = |passing: &[u32]| check_points(&record, &points.at[..2], passing);
-    assert_eq!(check(good), Ok(()));
-    for at in [0, 29, 30, 59] {
-        for changed in [good[at] + 6, good[at] - 6] {
-            let mut passing = good.to_vec();
-            passing[at] = changed;
-            let text = format!(
-                "point {} is three or more off in step {}",
-                at / 30,
-                at % 30 + 1
-            );
-            assert_eq!(check(&passing), Err(text));
-        }
-    }
-    let without_access: Vec<u32> = good.iter().map(|flow| flow - 120_000).collect();
-    let exchanged = [&good[30..], &good[..30]].concat();
-    let late = [&good[59..], &good[..59]].concat();
-    for passing in [without_access, exchanged, late] {
-        assert!(check(&passing).is_err());
-    }
 }

@@ -16,7 +16,13 @@ fn text(input: &[u8]) -> String {
 
 /// What the program itself prints.
 fn printed(input: &[u8]) -> String {
+    printed_with(&[], input)
+}
+
+/// What it prints where it is given these arguments.
+fn printed_with(arguments: &[&str], input: &[u8]) -> String {
     let mut child = Command::new(env!("CARGO_BIN_EXE_report"))
+        .args(arguments)
         .stdin(Stdio::piped())
         .stdout(Stdio::piped())
         .spawn()
@@ -90,5 +96,6 @@ fn program_prints_the_report() {
     };
     let archive = write(&(1..=512).map(record).collect::<Vec<_>>());
     assert_eq!(printed(&archive), text(&archive));
+    assert_eq!(printed_with(&["at-rest"], &archive), text(&archive));
     assert_eq!(printed(&[0, 0, 0, 0, 68, 82]), "");
 }

@@ -3,8 +3,11 @@
 use reference::archive;
 use reference::balance::{balance, check_volumes, pair_flows, Four, Outcome, ROUND_LIMIT};
 use reference::discharge::discharge;
+use reference::dispersion::{disperse_cycles, Ending};
 use reference::points::{work_points, Point, Points};
-use reference::record::Seeds;
+use reference::record::{decode, Seeds};
+use reference::samples::RecordBytes;
+use reference::vectors::rest::{late_to_rest, slow_to_rest, soon_at_rest, to_rest};
 use reference::vectors::{all, buffer_before, profile_before};
 use reference::working::{work, Refused, Working};
 
@@ -251,5 +254,38 @@ fn every_refusal_is_met() {
             .collect();
         assert!(lacking.is_empty(), "{name} lacks {lacking:?}");
         assert_eq!(file.tally.len(), labels.len() + 1);
+    }
+}
+
+/// The right entry's arrivals in one of the cycles of a record of 30 steps.
+fn right_arrivals(bytes: &RecordBytes, cycle: usize) -> Vec<u32> {
+    let mut leaving = [0; 90];
+    discharge(bytes, &mut leaving).unwrap();
+    let (time, all) = (decode(bytes).unwrap().running_time, Ending::AllCycles);
+    let (mut first, mut second) = ([0; 30], [0; 30]);
+    disperse_cycles(&leaving[60..], time, cycle, all, &mut first, &mut second).to_vec()
+}
+
+/// Cycles that are the same for long, and the last is another: by arrivals alone no end could be told.
+#[test]
+fn the_last_cycle_is_another() {
+    for record in late_to_rest() {
+        let [early, before, last] = [26, 64, 65].map(|cycle| right_arrivals(&record, cycle));
+        assert!(early == before && before != last);
+        let (mut output, mut first, mut second) = ([0; 120], [0; 30], [0; 30]);
+        work(&record, &mut output, &mut first, &mut second).unwrap();
+        assert_eq!((&first[..], &second[..]), (&last[..], &before[..]));
+    }
+}
+
+/// The records that are there for how soon they come to rest do so.
+#[test]
+fn late_and_soon_at_rest() {
+    for record in slow_to_rest() {
+        let most = (0..3).map(|i| to_rest(&record, i)).max();
+        assert!(most >= Some(20), "{most:?}");
+    }
+    for record in soon_at_rest() {
+        assert_eq!([0, 1, 2].map(|i| to_rest(&record, i)), [3; 3]);
     }
 }

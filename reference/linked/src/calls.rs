@@ -123,7 +123,8 @@ mod library {
         pub fn archive_count(archive: *const u8, archive_length: usize) -> ValueAnswer;
         pub fn archive_place(archive: *const u8, archive_length: usize, i: usize) -> ValueAnswer;
         pub fn archive_find(archive: *const u8, archive_length: usize, number: u32) -> ValueAnswer;
-        pub fn archive_title(archive: *const u8, archive_length: usize, number: u32) -> TitleAnswer;
+        pub fn archive_title(archive: *const u8, archive_length: usize, number: u32)
+            -> TitleAnswer;
         pub fn archive_add(
             archive: *const u8,
             archive_length: usize,

@@ -49,7 +49,11 @@ fn all_archives(tally: &mut Tally) -> Same {
 
 /// A record of no bytes is 6, an archive of none 1, a text buffer of none 17; a null pointer of length 0 is never read.
 fn null_slices() -> Same {
-    same_list("nulls", &calls::numbers_of_nulls(), &[6, 6, 6, 1, 1, 1, 1, 1, 17])
+    same_list(
+        "nulls",
+        &calls::numbers_of_nulls(),
+        &[6, 6, 6, 1, 1, 1, 1, 1, 17],
+    )
 }
 
 fn main() -> ExitCode {

@@ -8,6 +8,7 @@ pub mod faults;
 pub mod orders;
 pub mod points;
 pub mod range_ends;
+pub mod rest;
 pub mod working;
 
 use std::collections::BTreeMap;

@@ -2,12 +2,16 @@
 
 use super::discharge::refused_by_volume;
 use super::faults::{fault_pairs, faults};
+use super::rest::by_rest;
 use super::working::{fullest, long_record, with_idle_entries};
 use super::{product, profile_before, Body, File, ARRIVAL_TURNS, BLOCKING_EDGES};
 use super::{FIRST_BEFORE, OUTPUT_BEFORE, PASSING_BEFORE, SECOND_BEFORE};
 use crate::points::{work_points, Point, Points, POINTS_MOST};
 use crate::random::Random;
-use crate::record::{read_u32, ACCESS_AT, CYCLE_LEAST, CYCLE_MOST, RUNNING_TIME_AT};
+use crate::record::{
+    read_u16, read_u32, ACCESS_AT, CYCLE_AT, CYCLE_LEAST, CYCLE_MOST, RUNNING_TIME_AT,
+    RUNNING_TIME_LEAST,
+};
 use crate::samples::{
     busy, good_points, put_entry, put_exits, put_u16, put_u32, quiet, random_points, random_record,
     RecordBytes,
@@ -52,6 +56,7 @@ pub fn file() -> File {
     add_running_times(&mut file);
     add_idle_entries(&mut file);
     add_metered(&mut file);
+    add_by_rest(&mut file);
     add_extremes(&mut file);
     add_random(&mut file);
     add_short_cycles(&mut file);
@@ -308,6 +313,17 @@ fn add_metered(file: &mut File) {
             put_entry(&mut record, i, [1500, 1700, 26, 9, 250]);
         }
         add_exact(file, CYCLE_LEAST, &record, &first_points(4));
+    }
+}
+
+/// Links that come to rest late and soon, with points at all and at half of the running time.
+fn add_by_rest(file: &mut File) {
+    for record in by_rest() {
+        let own = running_time(&record);
+        let mut points = first_points(2);
+        points.at[0].running = own;
+        points.at[1].running = RUNNING_TIME_LEAST.max(own / 2);
+        add_exact(file, read_u16(&record, CYCLE_AT), &record, &points);
     }
 }
 

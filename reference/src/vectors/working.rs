@@ -4,11 +4,14 @@ use super::balance_cases::{Inputs, BY_ROUNDS, BY_STOP};
 use super::discharge::refused_by_volume;
 use super::faults::{fault_pairs, faults, Fault};
 use super::range_ends::{green_ends, headway_ends, number_ends, volume_ends};
+use super::rest::by_rest;
 use super::{product, profile_before, Body, File};
 use super::{ARRIVAL_TURNS, BLOCKING_EDGES, FIRST_BEFORE, OUTPUT_BEFORE, SECOND_BEFORE};
 use crate::arrivals::ExitFigures;
 use crate::random::Random;
-use crate::record::{ACCESS, ACCESS_AT, CYCLE_LEAST, CYCLE_MOST, HEADWAY_AT, RUNNING_TIME_AT};
+use crate::record::{
+    read_u16, ACCESS, ACCESS_AT, CYCLE_AT, CYCLE_LEAST, CYCLE_MOST, HEADWAY_AT, RUNNING_TIME_AT,
+};
 use crate::samples::{
     busy, put_downstream, put_entry, put_exits, put_seeds, put_u16, put_u32, quiet, random_record,
     RecordBytes,
@@ -46,6 +49,7 @@ pub fn file() -> File {
     add_extremes(&mut file);
     add_idle_entries(&mut file);
     add_balances(&mut file);
+    add_by_rest(&mut file);
     add_random(&mut file);
     add_short_cycles(&mut file);
     add_long(&mut file);
@@ -292,6 +296,13 @@ fn balance_record((discharge, exits, seeds): &Inputs) -> RecordBytes {
     put_exits(&mut record, *exits);
     put_seeds(&mut record, seeds);
     record
+}
+
+/// Links that come to rest late and soon.
+fn add_by_rest(file: &mut File) {
+    for record in by_rest() {
+        add_exact(file, read_u16(&record, CYCLE_AT), &record);
+    }
 }
 
 /// Random records, one in four at 240 steps and 300 s, some with longer profiles.
