@@ -8,7 +8,8 @@ use crate::record::{RUNNING_TIME_LEAST, RUNNING_TIME_MOST};
 use crate::samples::{busy, put_entry, put_u32, EntryFields, RecordBytes};
 
 /// Running times, and entries of the shortest cycle whose arrivals stay as they are from the 25th cycle to the 64th and
-/// change in the 65th: in green as much enters as leaves, so that the link gains but one flow unit a cycle.
+/// change in the 65th: in green nearly as much enters as leaves, so that the link gains but one flow unit a cycle.
+/// `examples/find_late.rs` searches for such.
 const LATE: [(u32, EntryFields); 5] = [
     (297_265, [4942, 11337, 0, 28, 936]),
     (297_835, [5208, 11913, 9, 28, 936]),
