@@ -8,9 +8,9 @@ use lib.Dec.{ltb}
 use lib.ListN.{length, drop}
 use borrow.Author.Tests.{ltb-true}
 use Rattle.dispersion.specs.declared.PlatoonState.{PlatoonState}
-use Rattle.dispersion.specs.Dispersion.{divisorOf, emptyState, stateAfter, repeated, reported, cycleWritten}
+use Rattle.dispersion.specs.Dispersion.{divisorOf, emptyState, stateAfter, repeated, reported, held, cycleWritten}
 use Rattle.dispersion.specs.Arrivals.{divisor-pos, state-carry}
-use Rattle.dispersion.specs.Cycles.{endOf, end-next, held, cycle-held, held-beyond}
+use Rattle.dispersion.specs.Cycles.{endOf, end-next, cycle-held, held-beyond}
 use Rattle.dispersion.specs.Rest.{AtRest, sameState, neededWhen, neededOf, same-state, rest-same}
 
 -- k cycles are worked, the last of them stands in front, and the last that needs working is the last of all n

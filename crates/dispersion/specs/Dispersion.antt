@@ -50,6 +50,10 @@ repeated (suc n) q = repeated n q ++ q
 unfoldable pub reported : ℕ → List ℕ → ℕ → List ℕ
 reported running q cycles = drop ((cycles - 1) * length q) (arrivals running (repeated cycles q) emptyState)
 
+-- a profile with the last of so many cycles in front, the numbers beyond as they were
+abbrev pub held : ℕ → List ℕ → ℕ → List ℕ → List ℕ
+held running q cycles profile = reported running q cycles ++ drop (length q) profile
+
 -- a profile after a cycle: the arrivals, and the numbers beyond as they were
 unfoldable pub cycleWritten : ℕ → List ℕ → PlatoonState → List ℕ → List ℕ
 cycleWritten running q s profile = arrivals running q s ++ drop (length q) profile

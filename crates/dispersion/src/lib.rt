@@ -5,8 +5,7 @@ ghost use Prim.Native.Nat.{_≤_, _<_};
 ghost use lib.ListN.{length};
 ghost use Rattle.limits.specs.Limits.{mostRunning};
 ghost use Rattle.dispersion.specs.Dispersion.{divisorOf, arrivalTimeOf, stepOf, stateAfter, cycleWritten};
-ghost use Rattle.dispersion.specs.Dispersion.{work, cycleWorked, cyclesWorked, firstHolds, lastPart};
-ghost use Rattle.dispersion.specs.Cycles.{held};
+ghost use Rattle.dispersion.specs.Dispersion.{held, work, cycleWorked, cyclesWorked, firstHolds, lastPart};
 ghost use Rattle.dispersion.specs.Rest.{neededOf};
 
 // The numerator of the smoothing factor (N of the paper); the divisor stands under it.

@@ -19,9 +19,9 @@ use Rattle.segment.specs.declared.Segment.{Segment}
 use Rattle.ranges.specs.Ranges.{Ranges, EntryRanges}
 use Rattle.entries.specs.Entries.{entryProfile, EntryRuns}
 use Rattle.entries.specs.Laws.{entry-length, entry-le}
-use Rattle.dispersion.specs.Dispersion.{arrivalTimeOf, reported}
+use Rattle.dispersion.specs.Dispersion.{arrivalTimeOf, reported, held}
 use Rattle.dispersion.specs.Arrivals.{arrival-time-small}
-use Rattle.dispersion.specs.Cycles.{reported-length, held, reported-le}
+use Rattle.dispersion.specs.Cycles.{reported-length, reported-le}
 use Rattle.arrivals.specs.Arrivals.{arrivalLimit, runLimit, LandsFit}
 use Rattle.propagation.specs.Propagation.{cyclesBefore, cycles}
 use Rattle.points.specs.declared.Point.{Point}
