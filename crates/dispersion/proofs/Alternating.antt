@@ -2,17 +2,15 @@
 use Prim.Native.Nat.{ℕ, suc, _+_, _≤_, _<_}
 use native.Mathlib.Numerals.{add-one}
 use native.Mathlib.Omega.{arith}
-use mathlib.Core.Bool.{Bool, true, false, _&&_}
 use mathlib.Core.Path.{_≡_, refl, ap, sym, _∙_}
 use mathlib.Core.List.{List}
-use lib.Dec.{ltb}
 use lib.ListN.{length}
-use borrow.Author.Tests.{ltb-true}
 use Rattle.dispersion.specs.declared.PlatoonState.{PlatoonState}
 use Rattle.dispersion.specs.Dispersion.{divisorOf, emptyState, stateAfter, Work, work, cycleWorked, cyclesWorked}
 use Rattle.dispersion.specs.Arrivals.{divisor-pos, state-carry}
 use Rattle.dispersion.specs.Cycles.{endOf, cycle-state, state-worked}
-use Rattle.dispersion.specs.Rest.{AtRest, sameState, neededWhen, neededOf, same-state, rest-skips}
+use Rattle.dispersion.specs.Rest.{AtRest, neededOf, rest-skips}
+use Rattle.dispersion.proofs.Needed.{Enough, next-needed}
 
 -- k cycles are worked, and those that need working leave what all n do
 pub record Alternating (running : ℕ) (q : List ℕ) (n : ℕ) (f₀ g₀ f g : List ℕ) (s : PlatoonState) (needed k : ℕ) : Type 0 where
@@ -39,11 +37,6 @@ alternate-start running q n f g =
 
 -- ---- a turn: cycle k + 1 from s to t, and how many are needed then
 
-pub record Enough (running : ℕ) (q : List ℕ) (n : ℕ) (f₀ g₀ : List ℕ) (needed k needed′ : ℕ) : Type 0 where
-  pub some : k + 1 ≤ needed′
-  pub fewer : needed′ ≤ needed
-  pub enough : cyclesWorked running q needed′ f₀ g₀ ≡ cyclesWorked running q n f₀ g₀
-
 module _ {running : ℕ} {q : List ℕ} {n : ℕ} {f₀ g₀ f g : List ℕ} {s : PlatoonState} {needed k : ℕ}
     (r : Alternating running q n f₀ g₀ f g s needed k) (more : k < needed) (t : PlatoonState) (f′ g′ : List ℕ) (needed′ : ℕ)
     (e : work t f′ g′ ≡ cycleWorked running q k (work s f g)) (e′ : needed′ ≡ neededOf (k + 1) 1 needed s t) where
@@ -56,18 +49,13 @@ module _ {running : ℕ} {q : List ℕ} {n : ℕ} {f₀ g₀ f g : List ℕ} {s 
       rw (← is) (sym (same ∙ next-state))
 
   -- one more where it rests: any number from there on leaves the same
-  next-needed : (a b : Bool) → ltb (k + 1) needed ≡ a → sameState s t ≡ b → Enough running q n f₀ g₀ needed k (neededWhen (a && b) (k + 1) 1 needed)
-  next-needed true true ea eb =
-      let more′ = ltb-true (k + 1) needed ea in
-      let skips = rest-skips running q k (rests (same-state s t eb)) needed f₀ g₀ (omega arith) in
-      let two : k + 1 + 1 ≡ suc (suc k) = omega arith in
-      record { some = omega arith; fewer = omega arith; enough = ap (λ (m : ℕ). cyclesWorked running q m f₀ g₀) two ∙ skips ∙ r .enough }
-  next-needed true false ea eb = record { some = omega arith; fewer = omega arith; enough = r .enough }
-  next-needed false b ea eb = record { some = omega arith; fewer = omega arith; enough = r .enough }
-
-  pub turn-needed : Enough running q n f₀ g₀ needed k needed′
-  unfolding neededOf
-  turn-needed = rw e′ (next-needed (ltb (k + 1) needed) (sameState s t) refl refl)
+  pub turn-needed : Enough (λ m. cyclesWorked running q m f₀ g₀) n needed k needed′
+  turn-needed =
+      next-needed (λ m. cyclesWorked running q m f₀ g₀) 1 more (omega arith) (r .enough)
+      (λ same less.
+      (let two : k + 1 + 1 ≡ suc (suc k) = omega arith in
+      ap (λ (m : ℕ). cyclesWorked running q m f₀ g₀) two ∙ rest-skips running q k (rests same) needed f₀ g₀ (omega arith)))
+      e′
 
   pub turn : length f′ ≡ length f → length g′ ≡ length g → Alternating running q n f₀ g₀ f′ g′ t needed′ (k + 1)
   unfolding cyclesWorked

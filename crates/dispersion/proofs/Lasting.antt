@@ -1,17 +1,15 @@
 -- The loop over the cycles in one profile: its invariant, that it holds at first, that a turn keeps it, and what it says at the end.
 use Prim.Native.Nat.{ℕ, zero, suc, _+_, _≤_, _<_}
 use native.Mathlib.Omega.{arith}
-use mathlib.Core.Bool.{Bool, true, false, _&&_}
 use mathlib.Core.Path.{_≡_, refl, ap, sym, _∙_}
 use mathlib.Core.List.{List, _++_}
-use lib.Dec.{ltb}
 use lib.ListN.{length, drop}
-use borrow.Author.Tests.{ltb-true}
 use Rattle.dispersion.specs.declared.PlatoonState.{PlatoonState}
 use Rattle.dispersion.specs.Dispersion.{divisorOf, emptyState, stateAfter, repeated, reported, held, cycleWritten}
 use Rattle.dispersion.specs.Arrivals.{divisor-pos, state-carry}
 use Rattle.dispersion.specs.Cycles.{endOf, end-next, cycle-held, held-beyond}
-use Rattle.dispersion.specs.Rest.{AtRest, sameState, neededWhen, neededOf, same-state, rest-same}
+use Rattle.dispersion.specs.Rest.{AtRest, neededOf, rest-same}
+use Rattle.dispersion.proofs.Needed.{Enough, next-needed}
 
 -- k cycles are worked, the last of them stands in front, and the last that needs working is the last of all n
 pub record Lasting (running : ℕ) (q : List ℕ) (n : ℕ) (p₀ p : List ℕ) (s : PlatoonState) (needed k : ℕ) : Type 0 where
@@ -42,29 +40,19 @@ last-start running q n p some =
 
 -- ---- a turn: cycle k + 1 from s to t, and how many are needed then
 
-pub record Enough (running : ℕ) (q : List ℕ) (n needed k needed′ : ℕ) : Type 0 where
-  pub some : k + 1 ≤ needed′
-  pub fewer : needed′ ≤ needed
-  pub enough : reported running q needed′ ≡ reported running q n
-
 module _ {running : ℕ} {q : List ℕ} {n : ℕ} {p₀ p : List ℕ} {s : PlatoonState} {needed k : ℕ} (r : Lasting running q n p₀ p s needed k)
     (more : k < needed) (t : PlatoonState) (needed′ : ℕ) (e : t ≡ stateAfter running q s) (e′ : needed′ ≡ neededOf (k + 1) 0 needed s t) where
   rests : s ≡ t → AtRest running q (endOf running q k)
   rests same = rw (← (r .state)) (sym (same ∙ e))
 
   -- none more where it rests: the reported cycle stays the same
-  next-needed : (a b : Bool) → ltb (k + 1) needed ≡ a → sameState s t ≡ b → Enough running q n needed k (neededWhen (a && b) (k + 1) 0 needed)
-  next-needed true true ea eb =
-      let more′ = ltb-true (k + 1) needed ea in
-      let one : k + 1 + 0 ≡ suc k = omega arith in
-      let same = rest-same running q k (rests (same-state s t eb)) needed (omega arith) in
-      record { some = omega arith; fewer = omega arith; enough = ap (reported running q) one ∙ same ∙ r .enough }
-  next-needed true false ea eb = record { some = omega arith; fewer = omega arith; enough = r .enough }
-  next-needed false b ea eb = record { some = omega arith; fewer = omega arith; enough = r .enough }
-
-  pub last-needed : Enough running q n needed k needed′
-  unfolding neededOf
-  last-needed = rw e′ (next-needed (ltb (k + 1) needed) (sameState s t) refl refl)
+  pub last-needed : Enough (reported running q) n needed k needed′
+  last-needed =
+      next-needed (reported running q) 0 more (omega arith) (r .enough)
+      (λ same less.
+      (let one : k + 1 + 0 ≡ suc k = omega arith in
+      ap (reported running q) one ∙ rest-same running q k (rests same) needed (omega arith)))
+      e′
 
   pub last-turn : (p′ : List ℕ) → p′ ≡ cycleWritten running q s p → length p′ ≡ length p → Lasting running q n p₀ p′ t needed′ (k + 1)
   last-turn p′ ep long =
