@@ -49,6 +49,27 @@ infixl 5 _then_
 pub _then_ : {b : List ℕ} {at : ℕ} {x b′ : List ℕ} {p : ℕ} {y b″ : List ℕ} {q : ℕ} → Wrote b at x b′ p → Wrote b′ p y b″ q → Wrote b at (x ++ y) b″ q
 _then_ {b} {at} {x} {y} v w = record { is = w .is ∙ rw (v .is, put-append) }
 
+-- a call keeps the buffer's length
+pub wrote-long : {b : List ℕ} {at : ℕ} {t b′ : List ℕ} {p : ℕ} → Wrote b at t b′ p → length b′ ≡ length b
+unfolding put
+wrote-long {b} {at} {t} w = ap (λ (q : Cursor). length (q .buffer)) (w .is) ∙ length-sets b at t
+
+-- a loop of pieces: those put so far and the rest are the whole
+pub record Appending (b₀ : List ℕ) (at : ℕ) (whole b : List ℕ) (p : ℕ) (rest : List ℕ) : Type 0 where
+  pub long : length b ≡ length b₀
+  pub same : put (cursor b₀ at) whole ≡ put (cursor b p) rest
+
+pub appending-start : (b : List ℕ) (at : ℕ) (whole : List ℕ) → Appending b at whole b at whole
+appending-start b at whole = record { long = refl; same = refl }
+
+module _ {b₀ : List ℕ} {at : ℕ} {whole b : List ℕ} {p : ℕ} {rest : List ℕ} (r : Appending b₀ at whole b p rest) where
+  -- the next piece is the front of the rest
+  pub appending-turn : {piece b′ : List ℕ} {p′ : ℕ} → Wrote b p piece b′ p′ → (rest′ : List ℕ) → rest ≡ piece ++ rest′ → Appending b₀ at whole b′ p′ rest′
+  appending-turn v rest′ e = record { long = wrote-long v ∙ r .long; same = r .same ∙ rw (e, put-append, v .is) }
+
+  pub appending-done : rest ≡ [] → Wrote b₀ at whole b p
+  appending-done e = record { is = sym (r .same ∙ rw e (put-nil b p)) }
+
 -- where the piece fits: what stands before it, the piece, and what stands after it
 pub wrote-fits : {b : List ℕ} {at : ℕ} {t b′ : List ℕ} {p : ℕ} → Wrote b at t b′ p → at + length t ≤ length b
     → (b′ ≡ take at b ++ t ++ drop (at + length t) b) × (p ≡ at + length t)
@@ -60,5 +81,4 @@ pub wrote-within : {b : List ℕ} {at : ℕ} {t b′ : List ℕ} {p : ℕ} → W
 unfolding put nextPlace
 wrote-within {b} {at} {t} {b′} {p} w h =
     let e : p ≡ max at (min (at + length t) (length b)) = ap (λ (q : Cursor). q .at) (w .is) in
-    let l : length b′ ≡ length b = ap (λ (q : Cursor). length (q .buffer)) (w .is) ∙ length-sets b at t in
-    omega arith
+    omega (arith, wrote-long w)

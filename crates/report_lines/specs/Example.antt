@@ -2,10 +2,10 @@
 use mathlib.Core.Path.{_≡_, refl}
 use Rattle.text.specs.Text.{digits, field}
 use Rattle.text.specs.Words.{bytes}
-use Rattle.report_lines.specs.Lines.{refusedLine, archiveRefusedLine}
+use Rattle.report_lines.specs.Lines.{refusedWords, refusedLine, archiveRefusedLine}
 
 pub printed-refused : refusedLine 1 7 ≡ bytes "card 1 refused 7\n"
-unfolding refusedLine field digits
+unfolding refusedLine refusedWords field digits
 printed-refused = refl
 
 pub printed-archive : archiveRefusedLine 2 ≡ bytes "drawer refused 2\n"

@@ -5,7 +5,7 @@ use Prim.Native.Char.{code}
 use mathlib.Core.List.{List, _∷_, _++_}
 use Rattle.text.specs.Text.{field}
 use Rattle.exit_figures.specs.declared.ExitFigures.{ExitFigures}
-use Rattle.text.specs.Words.{bytes}
+use Rattle.text.specs.Words.{bytes, newline}
 
 -- ---- the words
 
@@ -42,9 +42,6 @@ refusedLabel = bytes " refused "
 abbrev pub archiveLabel : List ℕ
 archiveLabel = bytes "drawer refused "
 
-abbrev pub newline : List ℕ
-newline = bytes "\n"
-
 abbrev pub letterL : ℕ
 letterL = code "l"
 
@@ -57,15 +54,30 @@ letterR = code "r"
 abbrev pub letterA : ℕ
 letterA = code "a"
 
--- ---- the lines
+-- ---- lines without their end, which the exam sheet has too
 
 -- card 1 cycle 60 shift 34 rounds 1
-unfoldable pub recordLine : (number cycle arrival rounds : ℕ) → List ℕ
-recordLine number cycle arrival rounds = field recordLabel number ++ field cycleLabel cycle ++ field shiftLabel arrival ++ field roundsLabel rounds ++ newline
+unfoldable pub recordWords : (number cycle arrival rounds : ℕ) → List ℕ
+recordWords number cycle arrival rounds = field recordLabel number ++ field cycleLabel cycle ++ field shiftLabel arrival ++ field roundsLabel rounds
 
 -- exit t total 21600000 green 10800000 permille 500
+unfoldable pub exitWords : List ℕ → ExitFigures → List ℕ
+exitWords label f = field label (f .total) ++ field greenLabel (f .green) ++ field permilleLabel (f .permille)
+
+-- card 1 refused 7
+unfoldable pub refusedWords : (number k : ℕ) → List ℕ
+refusedWords number k = field recordLabel number ++ field refusedLabel k
+
+-- ---- the lines
+
+unfoldable pub recordLine : (number cycle arrival rounds : ℕ) → List ℕ
+recordLine number cycle arrival rounds = recordWords number cycle arrival rounds ++ newline
+
 unfoldable pub exitLine : List ℕ → ExitFigures → List ℕ
-exitLine label f = field label (f .total) ++ field greenLabel (f .green) ++ field permilleLabel (f .permille) ++ newline
+exitLine label f = exitWords label f ++ newline
+
+unfoldable pub refusedLine : (number k : ℕ) → List ℕ
+refusedLine number k = refusedWords number k ++ newline
 
 -- exit a total 0
 unfoldable pub accessLine : ℕ → List ℕ
@@ -74,10 +86,6 @@ accessLine total = field (exitLabel letterA) total ++ newline
 -- blocked 0 of 60
 unfoldable pub blockedLine : (count cycle : ℕ) → List ℕ
 blockedLine count cycle = field blockedLabel count ++ field ofLabel cycle ++ newline
-
--- card 1 refused 7
-unfoldable pub refusedLine : (number k : ℕ) → List ℕ
-refusedLine number k = field recordLabel number ++ field refusedLabel k ++ newline
 
 -- drawer refused 2
 unfoldable pub archiveRefusedLine : ℕ → List ℕ

@@ -8,7 +8,7 @@ use Rattle.balance_decision.specs.declared.Outcome.the-variants.{Worked}
 use Rattle.working_outcome.specs.declared.Working.{Working}
 use Rattle.working_outcome.specs.Answer.{noFigures}
 use Rattle.text.specs.Words.{bytes}
-use Rattle.report_lines.specs.Lines.{recordLine, exitLine, accessLine, blockedLine}
+use Rattle.report_lines.specs.Lines.{recordWords, exitWords, recordLine, exitLine, accessLine, blockedLine}
 use Rattle.report_record.specs.Record.{workedText, recordText}
 
 -- the figures of the paper's record 1, any pair flows and any last sum
@@ -34,5 +34,5 @@ pub printed : (pairs : PairFlows) (sum : Float) → recordText 1 60 (example pai
     ++ bytes "exit r total 0 green 0 permille 0\n"
     ++ bytes "exit a total 0\n"
     ++ bytes "blocked 0 of 60\n"
-unfolding recordText workedText recordLine exitLine accessLine blockedLine field digits
+unfolding recordText workedText recordLine recordWords exitLine exitWords accessLine blockedLine field digits
 printed pairs sum = refl
