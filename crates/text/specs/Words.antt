@@ -7,3 +7,6 @@ use mathlib.Core.List.{List, [] as nil, _∷_ as cons}
 abbrev pub bytes : String → List ℕ
 bytes [] = nil
 bytes (c ∷ s) = cons (code c) (bytes s)
+
+abbrev pub newline : List ℕ
+newline = bytes "\n"
