@@ -1,5 +1,5 @@
 -- Pieces one after another are one piece; and what a buffer holds where all of it fits.
-use Prim.Native.Nat.{ℕ, suc, _+_, _≤_, min, max}
+use Prim.Native.Nat.{ℕ, suc, _+_, _-_, _≤_, min, max}
 use native.Mathlib.Omega.{arith}
 use mathlib.Core.Bool.{Bool, true, false}
 use mathlib.Core.Path.{_≡_, refl, ap, sym, _∙_}
@@ -54,6 +54,29 @@ pub wrote-long : {b : List ℕ} {at : ℕ} {t b′ : List ℕ} {p : ℕ} → Wro
 unfolding put
 wrote-long {b} {at} {t} w = ap (λ (q : Cursor). length (q .buffer)) (w .is) ∙ length-sets b at t
 
+-- where the buffer is full nothing more is put, whatever it is
+put-full : (b : List ℕ) (p : ℕ) (piece : List ℕ) → length b ≤ p → put (cursor b p) piece ≡ cursor b p
+unfolding put nextPlace
+put-full b p piece h = let e : max p (min (p + length piece) (length b)) ≡ p = omega arith in rw (sets-out b p piece h, e)
+
+after-full : {b : List ℕ} {at : ℕ} {x b′ : List ℕ} {p : ℕ} {y b″ : List ℕ} {q : ℕ} → Wrote b at x b′ p → length b′ ≤ p → Wrote b′ p y b″ q →
+    (z : List ℕ) → Wrote b at (x ++ z) b″ q
+after-full {b} {at} {x} {b′} {p} {y} u f v z =
+    record { is = v .is ∙ put-full b′ p y f ∙ sym (put-append (cursor b at) x z ∙ ap (λ (q : Cursor). put q z) (sym (u .is)) ∙ put-full b′ p z f) }
+
+-- a piece whose end is chosen by how many places the rest of it took: with room those are its length, without room the end is not put
+pub ended-by : {b : List ℕ} {at : ℕ} {x b′ : List ℕ} {p : ℕ} {b″ : List ℕ} {q : ℕ} (end : ℕ → List ℕ) →
+    Wrote b at x b′ p → Wrote b′ p (end (p - at)) b″ q → Wrote b at (x ++ end (length x)) b″ q
+unfolding put nextPlace
+ended-by {b} {at} {x} {b′} {p} {b″} {q} end u v = go (leb (at + length x) (length b)) refl
+  where
+    place : p ≡ max at (min (at + length x) (length b))
+    place = ap (λ (c : Cursor). c .at) (u .is)
+
+    go : (t : Bool) → leb (at + length x) (length b) ≡ t → Wrote b at (x ++ end (length x)) b″ q
+    go true e = let n : p - at ≡ length x = omega (arith, place, leb-true (at + length x) (length b) e) in u then (rw n at v)
+    go false e = after-full u (omega (arith, place, wrote-long u, leb-false (at + length x) (length b) e)) v _
+
 -- a loop of pieces: those put so far and the rest are the whole
 pub record Appending (b₀ : List ℕ) (at : ℕ) (whole b : List ℕ) (p : ℕ) (rest : List ℕ) : Type 0 where
   pub long : length b ≡ length b₀
@@ -76,7 +99,12 @@ pub wrote-fits : {b : List ℕ} {at : ℕ} {t b′ : List ℕ} {p : ℕ} → Wro
 unfolding put nextPlace
 wrote-fits {b} {at} {t} w h = (ap (λ (q : Cursor). q .buffer) (w .is) ∙ sets-eq t b at h, ap (λ (q : Cursor). q .at) (w .is) ∙ omega arith)
 
--- the place handed back lies within the buffer
+-- the place handed back does not lie before the piece
+pub wrote-on : {b : List ℕ} {at : ℕ} {t b′ : List ℕ} {p : ℕ} → Wrote b at t b′ p → at ≤ p
+unfolding put nextPlace
+wrote-on {b} {at} {t} {b′} {p} w = let e : p ≡ max at (min (at + length t) (length b)) = ap (λ (q : Cursor). q .at) (w .is) in omega arith
+
+-- and lies within the buffer
 pub wrote-within : {b : List ℕ} {at : ℕ} {t b′ : List ℕ} {p : ℕ} → Wrote b at t b′ p → at ≤ length b → p ≤ length b′
 unfolding put nextPlace
 wrote-within {b} {at} {t} {b′} {p} w h =

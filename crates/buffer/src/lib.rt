@@ -3,7 +3,8 @@ ghost use mathlib.Core.Path.{_≡_};
 ghost use Prim.Native.Nat.{min};
 ghost use Rattle.buffer.specs.Buffer.{Wrote};
 
-fn least(a: usize, b: usize) -> usize
+// The smaller of two.
+pub fn least(a: usize, b: usize) -> usize
     ensures { λ r. ⌜ r ≡ min a b ⌝ }
 {
     if a < b {

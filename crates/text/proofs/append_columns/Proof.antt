@@ -29,8 +29,11 @@ loop-holds c = (omega arith, appending-start _ _ _)
 cast-append-column : tie.Need-cast-append-column Inv-loop μ-loop
 cast-append-column c =
     let at-test = c .before .before in
-    omega (arith, div-le-self (getD (start at-test .args .numbers .now) (at-test .before .loop .i) 0) (start at-test .args .unit),
-    c .shared-slice-known2 .given (at-test .before .loop .i))
+    omega (
+      arith,
+      div-le-self (getD (start at-test .args .numbers .now) (at-test .before .loop .i) 0) (start at-test .args .unit),
+      c .shared-slice-known2 .given (at-test .before .loop .i),
+    )
 
 loop-again : tie.Need-loop-again Inv-loop μ-loop
 loop-again c =
