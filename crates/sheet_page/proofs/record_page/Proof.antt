@@ -1,72 +1,32 @@
+-- What was written is the page of the outcome matched, and so the record's.
 use borrow.Author.Needs.{needs}
+use Rattle.sheet_page.proofs.Outcomes.{by-outcome}
 use Rattle.sheet_page.proofs.record_page.Statement.{statement}
 use Rattle.sheet_page.proofs.record_page.Tie as tie
-use Rattle.sheet_page.proofs.record_page.Reads as reads
-use Rattle.sheet_page.proofs.record_page.Lts as lts
-use Rattle.sheet_page.proofs.refused_page.Reads as refused-page-reads
-use Rattle.sheet_page.proofs.worked_page.Reads as worked-page-reads
 
--- src/lib.rt:144:43
-enum-told : tie.Need-enum-told
-enum-told c = search needs
-
--- src/lib.rt:144:31
 worked-page-requires : tie.Need-worked-page-requires
-worked-page-requires c κs = ?
+worked-page-requires c κs =
+    let told = c .before in
+    let start = told .before .before .before .before in
+    start .pre .worked _ (told .enum-told .given .1)
 
--- src/lib.rt:145:26
-enum-known-outcome : tie.Need-enum-known-outcome
-enum-known-outcome c = search needs
-
--- src/lib.rt:145:32
-refused-page-requires : tie.Need-refused-page-requires
-refused-page-requires c κs = search needs
-
--- src/lib.rt:146:47
-enum-told-2 : tie.Need-enum-told-2
-enum-told-2 c = search needs
-
--- src/lib.rt:146:34
-refused-page-requires-2 : tie.Need-refused-page-requires-2
-refused-page-requires-2 c κs = search needs
-
--- src/lib.rt:131:1
-same-length : tie.Need-same-length
-same-length c = search needs
-
--- src/lib.rt:131:1
 returns : tie.Need-returns
-returns c = ?
+returns c =
+    let written = c .before .before in
+    by-outcome _ _ _ _ _ (written .before .before .enum-told .given .1) (written .worked-page .ensures)
 
--- src/lib.rt:131:1
-same-length-2 : tie.Need-same-length-2
-same-length-2 c = search needs
-
--- src/lib.rt:131:1
 returns-2 : tie.Need-returns-2
-returns-2 c = ?
+returns-2 c =
+    let written = c .before .before in
+    by-outcome _ _ _ _ _ (written .before .before .before .outcome .given .1) (written .refused-page .ensures)
 
--- src/lib.rt:131:1
-same-length-3 : tie.Need-same-length-3
-same-length-3 c = search needs
-
--- src/lib.rt:131:1
 returns-3 : tie.Need-returns-3
-returns-3 c = ?
+returns-3 c =
+    let written = c .before .before in
+    by-outcome _ _ _ _ _ (written .before .before .enum-told2 .given .1) (written .refused-page2 .ensures)
 
 pub record-page-spec : {M : Type 1} → statement M
 record-page-spec =
     tie.close
-    (tie.spec
-    enum-told
-    worked-page-requires
-    enum-known-outcome
-    refused-page-requires
-    enum-told-2
-    refused-page-requires-2
-    same-length
-    returns
-    same-length-2
-    returns-2
-    same-length-3
-    returns-3)
+    (tie.spec (λ c. search needs) worked-page-requires (λ c. search needs) (λ c κs. search needs) (λ c. search needs) (λ c κs. search needs)
+    (λ c. search needs) returns (λ c. search needs) returns-2 (λ c. search needs) returns-3)
