@@ -25,8 +25,8 @@ use Rattle.accuracy.specs.Accuracy.{Accurate}
 use Rattle.working_outcome.specs.declared.Working.{Working}
 use Rattle.working_outcome.specs.Answer.{refusedWith, workedOf}
 use Rattle.working_outcome.specs.Filled.{Filled}
-use Rattle.working.specs.Working.{acceptOf, decisionFor, called, byDecision, callOf, Works}
-use Rattle.working.specs.Decided.{fits-room, rows-fit, decided-accurate, own-case}
+use Rattle.working.specs.Working.{acceptOf, decisionFor, called, byOutcome, byDecision, callOf, Works}
+use Rattle.working.specs.Decided.{Decided, fits-room, rows-fit, decided-accurate, own-case}
 
 -- ---- what the volumes decide
 
@@ -52,17 +52,24 @@ module _ (s : Segment) (p : Profiles) {d : Decision} (e : d ≡ decisionFor s) w
   pub unsettled-is : (x : Float) → d .outcome ≡ Unsettled x → {w : Working} → w ≡ refusedWith (d .outcome) → called w p ≡ byDecision s (decisionFor s) p
   unsettled-is x eo ew = rw (← e, ew, eo)
 
-  module _ (x : Float) (eo : d .outcome ≡ Worked x) {rows : List (List ℕ)} (er : rows ≡ d .pairs .rows) where
-    pub fill-asks : Ranges s → Room (s .cycle) p → {o : Counts} → o ≡ dischargeVolumes s → FillFits s o rows p
-    fill-asks r m ev = record { ranges = r; volumes = ev; shares = rw (er, e) (rows-fit s (ap refusalOf (rw e at eo))); room = m }
+  pub worked-is : (x : Float) → d .outcome ≡ Worked x → {w : Working} (p′ : Profiles) → called w p′ ≡ byOutcome (Worked x) s (decisionFor s) p →
+      called w p′ ≡ byDecision s (decisionFor s) p
+  worked-is x eo p′ q = q ∙ rw (← e, eo)
 
-    pub filled : Ranges s → (p′ : Profiles) → p′ ≡ filledOf s rows p → Filled s (d .pairs .rows) (p′ .output)
-    unfolding filledOf
-    filled r p′ ef = record { ranges = r; rest = drop (4 * s .cycle) (p .output); is = ap (λ (q : Profiles). q .output) (rw er at ef) }
+-- ---- filling what is decided to work
 
-    pub worked-is : (p′ : Profiles) → p′ ≡ filledOf s rows p → {w : Working} → w ≡ workedOf s x (d .rounds) (d .pairs) →
-        called w p′ ≡ byDecision s (decisionFor s) p
-    worked-is p′ ef ew = rw (ef, ew, er, ← e, eo)
+module _ {s : Segment} {x : Float} {d : Decision} {p : Profiles} (h : Decided s x d p) {rows : List (List ℕ)} (er : rows ≡ d .pairs .rows) where
+  pub fill-asks : {o : Counts} → o ≡ dischargeVolumes s → FillFits s o rows p
+  fill-asks ev =
+      record { ranges = h .ranges; volumes = ev; shares = rw (er, h .is) (rows-fit s (ap refusalOf (rw (h .is) at (h .works)))); room = h .room }
+
+  pub filled : (p′ : Profiles) → p′ ≡ filledOf s rows p → Filled s (d .pairs .rows) (p′ .output)
+  unfolding filledOf
+  filled p′ ef = record { ranges = h .ranges; rest = drop (4 * s .cycle) (p .output); is = ap (λ (q : Profiles). q .output) (rw er at ef) }
+
+  pub fill-is : (p′ : Profiles) → p′ ≡ filledOf s rows p → {w : Working} → w ≡ workedOf s x (d .rounds) (d .pairs) →
+      called w p′ ≡ byOutcome (Worked x) s (decisionFor s) p
+  fill-is p′ ef ew = rw (ef, ew, er, ← h .is)
 
 -- ---- what the record decides
 

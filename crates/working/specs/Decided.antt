@@ -1,5 +1,5 @@
--- What stands on the working of an accepted record: the room that its test leaves, pair flows that fit their entries, demand 3 of what
--- was worked, and that a refusal of a record or a call is told by its number.
+-- What stands on the working of an accepted record: the room that its test leaves, what its filling asks, pair flows that fit their entries,
+-- demand 3 of what was worked, and that a refusal of a record or a call is told by its number.
 use Prim.Native.Nat.{ℕ, zero, suc, _*_, _≤_, _<_}
 use native.Mathlib.Omega.{arith}
 use mathlib.Core.Bool.{Bool, true, not, _&&_}
@@ -23,6 +23,7 @@ use Rattle.metering.specs.Metering.{dischargeVolumes, dischargeUnits}
 use Rattle.balance_pairs.specs.Pairs.{pairRow, pairRows, row-adds}
 use Rattle.balance_decision.specs.declared.Outcome.{Outcome}
 use Rattle.balance_decision.specs.declared.Outcome.the-variants.{Worked, Refused}
+use Rattle.balance_decision.specs.declared.Decision.{Decision}
 use Rattle.balance_decision.specs.Outcome.{outcomeOf, refusalOf}
 use Rattle.balance_decision.specs.Meaning.{from-cells}
 use Rattle.propagation.specs.Propagation.{Profiles, filledOf}
@@ -40,6 +41,13 @@ fits-room s p e =
     let t = both (leb (4 * c) (length (p .output)) && leb c (length (p .first))) (leb c (length (p .second))) e in
     let u = both (leb (4 * c) (length (p .output))) (leb c (length (p .first))) (t .0) in
     record { output = leb-true _ _ (u .0); first = leb-true _ _ (u .1); second = leb-true _ _ (t .1) }
+
+-- a record that is decided to work, and profiles with room for it
+pub record Decided (s : Segment) (sum : Float) (d : Decision) (p : Profiles) : Type 0 where
+  pub ranges : Ranges s
+  pub room : Room (s .cycle) p
+  pub is : d ≡ decisionFor s
+  pub works : d .outcome ≡ Worked sum
 
 -- ---- the pair flows of what is not refused fit their entries
 
