@@ -1,3 +1,4 @@
 pub mod Text
 pub mod Digits
 pub mod Words
+pub mod Columns

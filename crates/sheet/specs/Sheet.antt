@@ -1,0 +1,56 @@
+-- The exam sheet of a segment record (paper 02, request 3): its working without points, then the page of its figures. What the call
+-- answers and leaves in three lent profiles and a page buffer, on every way.
+use Prim.Native.Nat.{ℕ}
+use mathlib.Core.Bool.{cond}
+use mathlib.Core.Path.{_≡_}
+use mathlib.Core.List.{List, _++_}
+use lib.Dec.{leb}
+use lib.Ieee.{Float}
+use lib.ListN.{length, drop}
+use Rattle.octets.specs.Octets.{word4}
+use Rattle.segment.specs.Layout.{numberAt}
+use Rattle.segment.specs.Segment.{segmentOf}
+use Rattle.balance_decision.specs.declared.Outcome.{Outcome}
+use Rattle.balance_decision.specs.declared.Outcome.the-variants.{Worked, Refused, Unsettled}
+use Rattle.propagation.specs.Propagation.{Profiles}
+use Rattle.accuracy.specs.Accuracy.{Accurate}
+use Rattle.working_outcome.specs.declared.Working.{Working}
+use Rattle.working_outcome.specs.Answer.{refusedWith}
+use Rattle.working.specs.Working.{Called, callOf}
+use Rattle.page.specs.Page.{pageRoom}
+use Rattle.sheet_page.specs.SheetPage.{workedPage}
+
+-- the page: of the record's number, the answer's figures and the output as the call leaves it
+unfoldable pub sheetOf : (record : List ℕ) → Working → (output : List ℕ) → List ℕ
+sheetOf l w output = workedPage (word4 l numberAt) (segmentOf l .cycle) w output
+
+-- the answer, the three profiles and the page buffer afterwards
+pub record SheetCalled : Type 0 where
+  pub answer : Working
+  pub after : Profiles
+  pub page : List ℕ
+
+abbrev pub sheetCalled : Working → Profiles → List ℕ → SheetCalled
+sheetCalled w p page = record { answer = w; after = p; page = page }
+
+-- what the working leaves, and the page in front of the buffer; bytes beyond stay
+abbrev pub printed : List ℕ → Called → List ℕ → SheetCalled
+printed l c page = sheetCalled (c .answer) (c .after) (sheetOf l (c .answer) (c .after .output) ++ drop pageRoom page)
+
+-- a buffer without room for the page is refused last; profiles and buffer stay
+abbrev pub noRoom : Profiles → List ℕ → SheetCalled
+noRoom p page = sheetCalled (refusedWith (Refused 21)) p page
+
+-- by the outcome of the working: its refusals are the call's
+abbrev pub sheetBy : Outcome → List ℕ → Called → Profiles → List ℕ → SheetCalled
+sheetBy (Worked sum) l c p page = cond (leb pageRoom (length page)) (printed l c page) (noRoom p page)
+sheetBy (Refused number) l c p page = sheetCalled (c .answer) (c .after) page
+sheetBy (Unsettled sum) l c p page = sheetCalled (c .answer) (c .after) page
+
+unfoldable pub sheetCallOf : List ℕ → Profiles → List ℕ → SheetCalled
+sheetCallOf l p page = sheetBy (callOf l p .answer .outcome) l (callOf l p) p page
+
+-- the call as called: its answer, all three profiles and the page buffer, and demand 3 of all that it accepts
+pub record Sheets (l : List ℕ) (p : Profiles) (page : List ℕ) (r : Working) (p′ : Profiles) (page′ : List ℕ) : Type 0 where
+  pub is : sheetCalled r p′ page′ ≡ sheetCallOf l p page
+  pub accurate : (x : Float) → r .outcome ≡ Worked x → Accurate (segmentOf l) (r .pairs .rows) p′
