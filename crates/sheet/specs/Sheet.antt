@@ -21,7 +21,7 @@ use Rattle.page.specs.Page.{pageRoom}
 use Rattle.sheet_page.specs.SheetPage.{workedPage}
 
 -- the page: of the record's number, the answer's figures and the output as the call leaves it
-unfoldable pub sheetOf : (record : List ℕ) → Working → (output : List ℕ) → List ℕ
+unfoldable pub sheetOf : List ℕ → Working → (output : List ℕ) → List ℕ
 sheetOf l w output = workedPage (word4 l numberAt) (segmentOf l .cycle) w output
 
 -- the answer, the three profiles and the page buffer afterwards

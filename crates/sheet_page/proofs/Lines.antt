@@ -1,5 +1,5 @@
 -- The rows of a run, the next of those left and none; and the page from its parts.
-use Prim.Native.Nat.{ℕ, zero, suc, _+_, _-_, _*_, _/_, _≤_, _<_, min}
+use Prim.Native.Nat.{ℕ, suc, _+_, _-_, _*_, _/_, _≤_, _<_, min}
 use native.Mathlib.Omega.{arith}
 use mathlib.Core.Bool.{Bool, true, false}
 use mathlib.Core.Path.{_≡_, refl, sym, _∙_, ap}
@@ -14,6 +14,7 @@ use Rattle.working_outcome.specs.declared.Working.{Working}
 use Rattle.text.specs.Text.{columns}
 use Rattle.page.specs.Page.{pageLines, line, lines, blankLines, page}
 use Rattle.page.specs.Laws.{lines-append}
+use Rattle.sheet_page.specs.Fits.{flow-lines-count, head-lines-count}
 use Rattle.sheet_page.specs.SheetPage.{flowWidth, flowUnit, rowSteps, rowsFor, flowLines, headLines, sheetLines, workedPage}
 
 -- ---- a run
@@ -62,15 +63,6 @@ unfolding flowLines lines
 run-none run i h = rw (drop-of-length-le run {i = i} h)
 
 -- ---- the page
-
-flow-lines-count : (n : ℕ) (run : List ℕ) → length (flowLines n run) ≡ n
-unfolding flowLines
-flow-lines-count zero run = refl
-flow-lines-count (suc n) run = ap suc (flow-lines-count n (drop rowSteps run))
-
-head-lines-count : (number cycle : ℕ) (w : Working) → length (headLines number cycle w) ≡ 8
-unfolding headLines
-head-lines-count number cycle w = refl
 
 -- the lines above the run, the run, and blank lines
 pub page-done : (number cycle : ℕ) (w : Working) (output : List ℕ) → cycle + cycle ≤ length output →

@@ -1,2 +1,4 @@
 -- To read: SheetPage has every definition that a contract cites.
 pub mod SheetPage
+pub mod Fits
+pub mod Told

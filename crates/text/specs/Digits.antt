@@ -65,3 +65,8 @@ digits-most (suc k) n = go (eqb (n / 10) 0) (digits-most k (n / 10))
 pub field-length : (label : List ℕ) (n : ℕ) → length (field label n) ≤ length label + 20
 unfolding field
 field-length label n = rw length-append (omega (arith, digits-most 20 n))
+
+-- and no more than the number's size needs
+pub field-within : (label : List ℕ) (j n : ℕ) → n < 10 ^ suc j → length (field label n) ≤ length label + suc j
+unfolding field
+field-within label j n h = rw length-append (omega (arith, digits-length 20 j n h))
