@@ -20,10 +20,6 @@ use Rattle.working.specs.Working.{Called, callOf}
 use Rattle.page.specs.Page.{pageRoom}
 use Rattle.sheet_page.specs.SheetPage.{workedPage}
 
--- the page: of the record's number, the answer's figures and the output as the call leaves it
-unfoldable pub sheetOf : List ℕ → Working → (output : List ℕ) → List ℕ
-sheetOf l w output = workedPage (word4 l numberAt) (segmentOf l .cycle) w output
-
 -- the answer, the three profiles and the page buffer afterwards
 pub record SheetCalled : Type 0 where
   pub answer : Working
@@ -33,22 +29,23 @@ pub record SheetCalled : Type 0 where
 abbrev pub sheetCalled : Working → Profiles → List ℕ → SheetCalled
 sheetCalled w p page = record { answer = w; after = p; page = page }
 
--- what the working leaves, and the page in front of the buffer; bytes beyond stay
-abbrev pub printed : List ℕ → Called → List ℕ → SheetCalled
-printed l c page = sheetCalled (c .answer) (c .after) (sheetOf l (c .answer) (c .after .output) ++ drop pageRoom page)
+-- what the working leaves, and in front of the buffer the page of the record's number, the answer's figures and the output as it is
+-- left; bytes beyond the page stay
+abbrev pub printed : (number cycle : ℕ) → Called → List ℕ → SheetCalled
+printed number cycle c page = sheetCalled (c .answer) (c .after) (workedPage number cycle (c .answer) (c .after .output) ++ drop pageRoom page)
 
 -- a buffer without room for the page is refused last; profiles and buffer stay
 abbrev pub noRoom : Profiles → List ℕ → SheetCalled
 noRoom p page = sheetCalled (refusedWith (Refused 21)) p page
 
 -- by the outcome of the working: its refusals are the call's
-abbrev pub sheetBy : Outcome → List ℕ → Called → Profiles → List ℕ → SheetCalled
-sheetBy (Worked sum) l c p page = cond (leb pageRoom (length page)) (printed l c page) (noRoom p page)
-sheetBy (Refused number) l c p page = sheetCalled (c .answer) (c .after) page
-sheetBy (Unsettled sum) l c p page = sheetCalled (c .answer) (c .after) page
+abbrev pub sheetBy : Outcome → (number cycle : ℕ) → Called → Profiles → List ℕ → SheetCalled
+sheetBy (Worked sum) number cycle c p page = cond (leb pageRoom (length page)) (printed number cycle c page) (noRoom p page)
+sheetBy (Refused k) number cycle c p page = sheetCalled (c .answer) (c .after) page
+sheetBy (Unsettled sum) number cycle c p page = sheetCalled (c .answer) (c .after) page
 
 unfoldable pub sheetCallOf : List ℕ → Profiles → List ℕ → SheetCalled
-sheetCallOf l p page = sheetBy (callOf l p .answer .outcome) l (callOf l p) p page
+sheetCallOf l p page = sheetBy (callOf l p .answer .outcome) (word4 l numberAt) (segmentOf l .cycle) (callOf l p) p page
 
 -- the call as called: its answer, all three profiles and the page buffer, and demand 3 of all that it accepts
 pub record Sheets (l : List ℕ) (p : Profiles) (page : List ℕ) (r : Working) (p′ : Profiles) (page′ : List ℕ) : Type 0 where

@@ -1,11 +1,15 @@
 // The exam sheet of a segment record: everything is decided first, then the three profiles are filled, then the page.
 ghost use mathlib.Core.Path.{_≡_};
+ghost use Prim.Native.Nat.{_≤_};
+ghost use lib.ListN.{length};
+ghost use Rattle.ranges.specs.Ranges.{Ranges};
 ghost use Rattle.balance_decision.specs.declared.Outcome.the-variants.{Worked};
 ghost use Rattle.propagation.specs.Propagation.{lent};
+ghost use Rattle.propagation.specs.Steps.{Room};
 ghost use Rattle.working.specs.Decided.{Decided};
 ghost use Rattle.working.specs.Working.{byDecision, byOutcome, decisionFor};
-ghost use Rattle.sheet.specs.Sheet.{Sheets, sheetCalled};
-ghost use Rattle.sheet.specs.Steps.{Accepts, decidedSheet, filledSheet, PageFits};
+ghost use Rattle.page.specs.Page.{pageRoom};
+ghost use Rattle.sheet.specs.Sheet.{Sheets, printed, sheetBy, sheetCalled};
 use balance_decision::Decision;
 use balance_decision::Outcome;
 use page::PAGE_ROOM;
@@ -24,9 +28,9 @@ fn fill(
     first: &mut [u32],
     second: &mut [u32],
 ) -> Working
-    requires { ⌜ Decided s sum decision (lent output first second) × PageFits number (now page) ⌝ }
+    requires { ⌜ Decided s sum decision (lent output first second) × (pageRoom ≤ length (now page)) ⌝ }
     ensures { λ r. ⌜ sheetCalled r (lent (output .exit) (first .exit) (second .exit)) (now (page .exit))
-        ≡ filledSheet number s sum (lent (output .entry) (first .entry) (second .entry)) (now (page .entry)) ⌝ }
+        ≡ printed number (s .cycle) (byOutcome (Worked sum) s (decisionFor s) (lent (output .entry) (first .entry) (second .entry))) (now (page .entry)) ⌝ }
 {
     let w = working::fill(s, sum, decision, output, first, second);
     sheet_page::worked_page(page, 0, number, s.cycle, w, &output[..]);
@@ -42,9 +46,10 @@ fn sheet_accepted(
     first: &mut [u32],
     second: &mut [u32],
 ) -> Working
-    requires { ⌜ Accepts number s (lent output first second) ⌝ }
+    requires { ⌜ Ranges s × Room (s .cycle) (lent output first second) ⌝ }
     ensures { λ r. ⌜ sheetCalled r (lent (output .exit) (first .exit) (second .exit)) (now (page .exit))
-        ≡ decidedSheet number s (decisionFor s) (lent (output .entry) (first .entry) (second .entry)) (now (page .entry)) ⌝ }
+        ≡ sheetBy (decisionFor s .outcome) number (s .cycle) (byDecision s (decisionFor s) (lent (output .entry) (first .entry) (second .entry)))
+        (lent (output .entry) (first .entry) (second .entry)) (now (page .entry)) ⌝ }
 {
     let decision = working::decide(s);
     let outcome = decision.outcome;

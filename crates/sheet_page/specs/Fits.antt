@@ -51,8 +51,13 @@ record-fits number cycle arrival rounds hn hc ha hr =
     let abc = printed-append (a ++ b) c ab (field-printed shiftLabel arrival refl) in
     record {
       wide = rw (length-append, length-append, length-append)
-          (omega (arith, field-within recordLabel 9 number hn, field-within cycleLabel 2 cycle hc, field-within shiftLabel 2 arrival ha,
-          field-within roundsLabel 2 rounds hr));
+          (omega (
+            arith,
+            field-within recordLabel 9 number hn,
+            field-within cycleLabel 2 cycle hc,
+            field-within shiftLabel 2 arrival ha,
+            field-within roundsLabel 2 rounds hr,
+          ));
       bytes = printed-append (a ++ b ++ c) d abc (field-printed roundsLabel rounds refl);
     }
 
@@ -65,8 +70,12 @@ exit-fits letter hl f h =
     let ab = printed-append a b (field-printed (exitLabel letter) (f .total) hl) (field-printed greenLabel (f .green) refl) in
     record {
       wide = rw (length-append, length-append)
-          (omega (arith, field-within (exitLabel letter) 10 (f .total) (h .total), field-within greenLabel 10 (f .green) (h .green),
-          field-within permilleLabel 3 (f .permille) (h .permille)));
+          (omega (
+            arith,
+            field-within (exitLabel letter) 10 (f .total) (h .total),
+            field-within greenLabel 10 (f .green) (h .green),
+            field-within permilleLabel 3 (f .permille) (h .permille),
+          ));
       bytes = printed-append (a ++ b) c ab (field-printed permilleLabel (f .permille) refl);
     }
 

@@ -1,18 +1,16 @@
 -- The ways of the call, over plain variables.
 use Prim.Native.Nat.{ℕ, _*_}
 use native.Mathlib.Omega.{arith}
-use mathlib.Core.Path.{_≡_, refl, ap, subst, _∙_}
+use mathlib.Core.Path.{_≡_, ap, sym, subst, _∙_}
 use mathlib.Core.List.{List}
 use lib.Ieee.{Float}
-use lib.ListN.{length, drop}
-use Rattle.refusal.specs.Refusal.{Or, ok, false-true}
+use lib.ListN.{drop}
+use Rattle.refusal.specs.Refusal.{false-true}
 use Rattle.movements.specs.declared.Counts.{Counts}
 use Rattle.segment.specs.declared.Segment.{Segment}
 use Rattle.ranges.specs.Ranges.{Ranges}
 use Rattle.validation.specs.declared.Checked.the-variants as checked
 use Rattle.validation.specs.Validation.{checkedOf}
-use Rattle.validation.specs.Accepted.{Accepted}
-use Rattle.validation.specs.Accepting.{checked-refused, checked-valid, accept-passed}
 use Rattle.metering.specs.Metering.{dischargeVolumes, discharge-volume-entry}
 use Rattle.balance_pairs.specs.Pairs.{WithinLimit}
 use Rattle.balance_decision.specs.declared.Outcome.the-variants.{Worked, Refused, Unsettled}
@@ -25,8 +23,9 @@ use Rattle.accuracy.specs.Accuracy.{Accurate}
 use Rattle.working_outcome.specs.declared.Working.{Working}
 use Rattle.working_outcome.specs.Answer.{refusedWith, workedOf}
 use Rattle.working_outcome.specs.Filled.{Filled}
-use Rattle.working.specs.Working.{acceptOf, decisionFor, called, byOutcome, byDecision, callOf, Works}
-use Rattle.working.specs.Decided.{Decided, fits-room, rows-fit, decided-accurate, own-case}
+use Rattle.working.specs.Working.{decisionFor, called, byOutcome, byDecision, Works}
+use Rattle.working.specs.Decided.{Decided, rows-fit, decided-accurate}
+use Rattle.working.specs.Ways.{acceptFor, call-passed, call-accepted, call-refused}
 
 -- ---- what the volumes decide
 
@@ -74,32 +73,23 @@ module _ {s : Segment} {x : Float} {d : Decision} {p : Profiles} (h : Decided s 
 -- ---- what the record decides
 
 module _ (l : List ℕ) (p : Profiles) where
-  abbrev accepts : Or Segment
-  accepts = acceptOf l (length (p .output)) (length (p .first)) (length (p .second))
-
-  passed : (s : Segment) → accepts ≡ ok s → Accepted l s × Room (s .cycle) p
-  passed s e = let a = accept-passed l _ s e in (a .0, fits-room s p (a .1 16))
-
-  pub record-passed : (s : Segment) → checkedOf accepts ≡ checked.Valid s → Ranges s × Room (s .cycle) p
-  record-passed s e = let a = passed s (checked-valid accepts s e) in (a .0 .ranges, a .1)
+  pub record-passed : (s : Segment) → checkedOf (acceptFor l p) ≡ checked.Valid s → Ranges s × Room (s .cycle) p
+  record-passed s e = let a = call-passed l p s e in (a .0 .ranges, a .1)
 
   -- the call, worked or refused for its volumes
-  pub record-worked : (s : Segment) → checkedOf accepts ≡ checked.Valid s → (w : Working) (p′ : Profiles) →
+  pub record-worked : (s : Segment) → checkedOf (acceptFor l p) ≡ checked.Valid s → (w : Working) (p′ : Profiles) →
       called w p′ ≡ byDecision s (decisionFor s) p → Works l p w p′
-  unfolding callOf
   record-worked s e w p′ q =
-      let a = checked-valid accepts s e in
+      let a = call-passed l p s e .0 in
       record {
-        is = q ∙ rw a;
-        accurate = λ x o. subst (λ (u : Segment). Accurate u (w .pairs .rows) p′) (passed s a .0 .is) (decided-accurate s (passed s a .0 .ranges) p w p′ q x o);
+        is = q ∙ sym (call-accepted l p s e);
+        accurate = λ x o. subst (λ (u : Segment). Accurate u (w .pairs .rows) p′) (a .is) (decided-accurate s (a .ranges) p w p′ q x o);
       }
 
   -- refused for its record or a profile's length
-  pub record-refused : (n : ℕ) → checkedOf accepts ≡ checked.Refused n → (w : Working) → w ≡ refusedWith (Refused n) → Works l p w p
-  unfolding callOf
+  pub record-refused : (n : ℕ) → checkedOf (acceptFor l p) ≡ checked.Refused n → (w : Working) → w ≡ refusedWith (Refused n) → Works l p w p
   record-refused n e w ew =
-      let a = checked-refused accepts n e in
       record {
-        is = rw (a, own-case l _ (λ s. refl) n a) (ap (λ (v : Working). called v p) ew);
+        is = ap (λ (v : Working). called v p) ew ∙ sym (call-refused l p n e);
         accurate = λ x o. false-true (cc (ap (λ (v : Working). v .outcome) ew));
       }
