@@ -1,4 +1,5 @@
-//! Reference implementation of paper 01, and of the points and the repeating flow of paper 02, written from the papers alone.
+//! Reference implementation of paper 01, and of the points, the repeating flow and the exam sheet of paper 02, written from the
+//! papers alone.
 
 pub mod accuracy;
 pub mod archive;
@@ -11,10 +12,12 @@ pub mod greens;
 pub mod metering;
 pub mod natural;
 pub mod points;
+pub mod program;
 pub mod random;
 pub mod record;
 pub mod refusal;
 pub mod report;
 pub mod samples;
+pub mod sheet;
 pub mod vectors;
 pub mod working;

@@ -39,3 +39,5 @@ pub const FULL: Refusal = 18;
 pub const POINT_COUNT: Refusal = 19;
 /// A given point's running time or headway.
 pub const POINT: Refusal = 20;
+/// A page buffer that is too short.
+pub const PAGE: Refusal = 21;

@@ -135,13 +135,35 @@ pub fn work_ending(
     first: &mut [u32],
     second: &mut [u32],
 ) -> Result<Working, Refused> {
+    let (record, decision) = accept(bytes, output, first, second)?;
+    Ok(write_unseen(
+        &record, &decision, ending, output, first, second,
+    ))
+}
+
+/// All refusals of the working in order, or the record and what is to be written.
+pub(crate) fn accept(
+    bytes: &[u8],
+    output: &[u32],
+    first: &[u32],
+    second: &[u32],
+) -> Result<(Record, Decision), Refused> {
     let record = decode(bytes)?;
     check_lengths(&record, output, first, second)?;
     let decision = decide(&record)?;
-    let unseen = |_: &[u32]| ();
-    Ok(write(
-        &record, &decision, ending, output, first, second, unseen,
-    ))
+    Ok((record, decision))
+}
+
+/// As `write`, where nobody asks for the discharge.
+pub(crate) fn write_unseen(
+    record: &Record,
+    decision: &Decision,
+    ending: Ending,
+    output: &mut [u32],
+    first: &mut [u32],
+    second: &mut [u32],
+) -> Working {
+    write(record, decision, ending, output, first, second, |_| ())
 }
 
 /// Writes what was decided and gives the figures; `see_discharge` is shown each entry's discharge in turn.

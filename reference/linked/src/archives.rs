@@ -1,4 +1,4 @@
-//! Random archives, read, searched, added to and reported by both.
+//! Random archives, read, searched, added to, reported and printed as sheets by both.
 
 use reference::archive::{add, find, read, title, COUNT_MOST, MARK, TITLE_MOST};
 use reference::random::Random;
@@ -6,6 +6,7 @@ use reference::record::{CYCLE_LEAST, CYCLE_MOST, NUMBER_AT, RECORD_BYTES};
 use reference::refusal::{ABSENT, ARCHIVE_TRAILER};
 use reference::report::{report_to, INPUT_MOST, TEXT_ROOM};
 use reference::samples::{busy, put_u32, random_record};
+use reference::sheet::{sheets_to, SHEETS_ROOM};
 use reference::vectors::archive::write;
 use reference::vectors::buffer_before;
 
@@ -16,7 +17,8 @@ use crate::same::{same, same_list, Same, Tally};
 type Bytes = [u8; RECORD_BYTES];
 type Filed = (Bytes, Vec<u8>);
 
-pub fn compare_archive(random: &mut Random, n: u32, tally: &mut Tally) -> Same {
+/// `sheets` counts the numbers of the call that makes sheets, `tally` those of the others.
+pub fn compare_archive(random: &mut Random, n: u32, tally: &mut Tally, sheets: &mut Tally) -> Same {
     let filed = filed(random, n);
     let whole = write(&filed);
     let archive = damaged(random, n, whole);
@@ -26,7 +28,8 @@ pub fn compare_archive(random: &mut Random, n: u32, tally: &mut Tally) -> Same {
     compare_reading(&archive, random, tally)
         .and_then(|()| compare_finding(&archive, &numbers, tally))
         .and_then(|()| compare_adding(&archive, &filed, random, tally))
-        .and_then(|()| compare_report(&archive, random, tally))
+        .and_then(|()| compare_text(&REPORT, &archive, random, tally))
+        .and_then(|()| compare_sheets(&archive, filed.len(), random, sheets))
         .map_err(|difference| format!("archive {n} of {} bytes: {difference}", archive.len()))
 }
 
@@ -231,20 +234,57 @@ fn room(random: &mut Random, enough: usize) -> usize {
     }
 }
 
+/// A call that writes a text of an archive to a lent buffer: its name, the room that it asks for, the library's and the
+/// reference's.
+struct Text {
+    name: &'static str,
+    room: usize,
+    library: fn(&[u8], &mut [u8]) -> ValueAnswer,
+    reference: fn(&[u8], &mut [u8]) -> Result<usize, u32>,
+}
+
+const REPORT: Text = Text {
+    name: "report",
+    room: TEXT_ROOM,
+    library: calls::archive_report,
+    reference: report_to,
+};
+
+const SHEETS: Text = Text {
+    name: "sheets",
+    room: SHEETS_ROOM,
+    library: calls::archive_sheets,
+    reference: sheets_to,
+};
+
+/// The sheets are long: of one archive in sixteen, of the full ones and of too long input.
+fn compare_sheets(archive: &[u8], records: usize, random: &mut Random, tally: &mut Tally) -> Same {
+    let rare = records == COUNT_MOST || archive.len() > INPUT_MOST;
+    if !rare && !random.one_in(16) {
+        return Ok(());
+    }
+    compare_text(&SHEETS, archive, random, tally)
+}
+
 /// The text in a buffer that holds every text, with bytes beyond; a shorter one is refused and stays, also where the text would fit.
-fn compare_report(archive: &[u8], random: &mut Random, tally: &mut Tally) -> Same {
-    let roomy = TEXT_ROOM + random.pick(&[0, 1, 70]);
-    let short = random.pick(&[TEXT_ROOM - 1, 200_000, 4000, 30, 0]);
+fn compare_text(text: &Text, archive: &[u8], random: &mut Random, tally: &mut Tally) -> Same {
+    let roomy = text.room + random.pick(&[0, 1, 70]);
+    let short = random.pick(&[text.room - 1, text.room / 4 * 3, 4000, 30, 0]);
     for room in [roomy, short] {
         let mut expected = buffer_before(room);
-        let mut text = buffer_before(room);
-        let length = report_to(archive, &mut expected);
+        let mut told_text = buffer_before(room);
+        let length = (text.reference)(archive, &mut expected);
         tally.count(told(length).0);
-        same_value("report", calls::archive_report(archive, &mut text), length)?;
-        same_list("text", &text, &expected)?;
-        if room >= TEXT_ROOM && archive.len() > INPUT_MOST {
+        let library = (text.library)(archive, &mut told_text);
+        same_value(text.name, library, length)?;
+        same_list(text.name, &told_text, &expected)?;
+        if room >= text.room && archive.len() > INPUT_MOST {
             let line = format!("drawer refused {ARCHIVE_TRAILER}\n");
-            same_list("text of long input", &text[..line.len()], line.as_bytes())?;
+            same_list(
+                "text of long input",
+                &told_text[..line.len()],
+                line.as_bytes(),
+            )?;
         }
     }
     Ok(())

@@ -114,6 +114,18 @@ mod library {
             second: *mut u32,
             second_length: usize,
         ) -> PointWorkAnswer;
+        pub fn segment_sheet(
+            bytes: *const u8,
+            bytes_length: usize,
+            page: *mut u8,
+            page_length: usize,
+            output: *mut u32,
+            output_length: usize,
+            first: *mut u32,
+            first_length: usize,
+            second: *mut u32,
+            second_length: usize,
+        ) -> WorkAnswer;
         pub fn segment_discharge(
             bytes: *const u8,
             bytes_length: usize,
@@ -136,6 +148,12 @@ mod library {
             buffer_length: usize,
         ) -> ValueAnswer;
         pub fn archive_report(
+            archive: *const u8,
+            archive_length: usize,
+            text: *mut u8,
+            text_length: usize,
+        ) -> ValueAnswer;
+        pub fn archive_sheets(
             archive: *const u8,
             archive_length: usize,
             text: *mut u8,
@@ -181,6 +199,29 @@ pub fn segment_work_points(
             output.len(),
             passing.as_mut_ptr(),
             passing.len(),
+            first.as_mut_ptr(),
+            first.len(),
+            second.as_mut_ptr(),
+            second.len(),
+        )
+    }
+}
+
+pub fn segment_sheet(
+    bytes: &[u8],
+    page: &mut [u8],
+    output: &mut [u32],
+    first: &mut [u32],
+    second: &mut [u32],
+) -> WorkAnswer {
+    unsafe {
+        library::segment_sheet(
+            bytes.as_ptr(),
+            bytes.len(),
+            page.as_mut_ptr(),
+            page.len(),
+            output.as_mut_ptr(),
+            output.len(),
             first.as_mut_ptr(),
             first.len(),
             second.as_mut_ptr(),
@@ -242,8 +283,19 @@ pub fn archive_report(archive: &[u8], text: &mut [u8]) -> ValueAnswer {
     }
 }
 
+pub fn archive_sheets(archive: &[u8], text: &mut [u8]) -> ValueAnswer {
+    unsafe {
+        library::archive_sheets(
+            archive.as_ptr(),
+            archive.len(),
+            text.as_mut_ptr(),
+            text.len(),
+        )
+    }
+}
+
 /// The numbers of all calls where every slice is a null pointer of length 0.
-pub fn numbers_of_nulls() -> [u32; 9] {
+pub fn numbers_of_nulls() -> [u32; 11] {
     let (bytes, buffer, profile) = (null(), null_mut(), null_mut());
     let none = Points::default();
     unsafe {
@@ -254,6 +306,7 @@ pub fn numbers_of_nulls() -> [u32; 9] {
             )
             .work
             .number,
+            library::segment_sheet(bytes, 0, buffer, 0, profile, 0, profile, 0, profile, 0).number,
             library::segment_discharge(bytes, 0, profile, 0).number,
             library::archive_count(bytes, 0).number,
             library::archive_place(bytes, 0, 0).number,
@@ -261,6 +314,7 @@ pub fn numbers_of_nulls() -> [u32; 9] {
             library::archive_title(bytes, 0, 1).number,
             library::archive_add(bytes, 0, bytes, 0, bytes, 0, buffer, 0).number,
             library::archive_report(bytes, 0, buffer, 0).number,
+            library::archive_sheets(bytes, 0, buffer, 0).number,
         ]
     }
 }

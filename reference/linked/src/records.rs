@@ -22,6 +22,8 @@ type Bytes = [u8; RECORD_BYTES];
 
 /// Lengths of output, first, second and discharge profile.
 type Lengths = [usize; 4];
+/// Output, first and second.
+pub type Profiles = [Vec<u32>; 3];
 
 pub const KINDS: u32 = 12;
 
@@ -139,7 +141,7 @@ fn other_length(random: &mut Random, cycle: u32) -> Vec<u8> {
 }
 
 /// Just enough, in one of four longer, in one of eight one of them short, in one of sixteen any.
-fn lengths(random: &mut Random, cycle: usize) -> Lengths {
+pub fn lengths(random: &mut Random, cycle: usize) -> Lengths {
     let exact = [4 * cycle, cycle, cycle, 3 * cycle];
     let mut lengths = exact;
     match random.below(16) {
@@ -153,22 +155,34 @@ fn lengths(random: &mut Random, cycle: usize) -> Lengths {
 }
 
 fn compare_working(record: &[u8], lengths: Lengths, tally: &mut Tally) -> Same {
-    let before = || {
-        [
-            profile_before(OUTPUT_BEFORE, lengths[0]),
-            profile_before(FIRST_BEFORE, lengths[1]),
-            profile_before(SECOND_BEFORE, lengths[2]),
-        ]
-    };
-    let [mut output, mut first, mut second] = before();
-    let told = calls::segment_work(record, &mut output, &mut first, &mut second);
-    let [mut output2, mut first2, mut second2] = before();
-    let expected = expected_working(&work(record, &mut output2, &mut first2, &mut second2));
+    let [output, first, second, _] = lengths;
+    let before = || profiles_before([output, first, second]);
+    let (mut told_profiles, mut profiles) = (before(), before());
+    let told = library_working(record, &mut told_profiles);
+    let [output, first, second] = &mut profiles;
+    let expected = expected_working(&work(record, output, first, second));
     tally.count(expected.number);
     same_list("working", &numbers(&told), &numbers(&expected))?;
-    same_list("output profile", &output, &output2)?;
-    same_list("first work profile", &first, &first2)?;
-    same_list("second work profile", &second, &second2)
+    same_profiles(&told_profiles, &profiles)
+}
+
+pub fn library_working(record: &[u8], profiles: &mut Profiles) -> WorkAnswer {
+    let [output, first, second] = profiles;
+    calls::segment_work(record, output, first, second)
+}
+
+pub fn profiles_before([output, first, second]: [usize; 3]) -> Profiles {
+    [
+        profile_before(OUTPUT_BEFORE, output),
+        profile_before(FIRST_BEFORE, first),
+        profile_before(SECOND_BEFORE, second),
+    ]
+}
+
+pub fn same_profiles(told: &Profiles, expected: &Profiles) -> Same {
+    same_list("output profile", &told[0], &expected[0])?;
+    same_list("first work profile", &told[1], &expected[1])?;
+    same_list("second work profile", &told[2], &expected[2])
 }
 
 /// The reference's answer as the library tells it: all 0 where refused, but 15 with its last sum.

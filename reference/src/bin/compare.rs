@@ -1,6 +1,8 @@
-//! Runs a report program on many archives and compares every byte that it prints with the reference's report.
-//! usage: compare PRODUCT
+//! Runs a report program and a program of exam sheets on many archives and compares every byte that they print with the
+//! reference's report and sheets.
+//! usage: compare PRODUCT SHEETS
 
+use std::ffi::{OsStr, OsString};
 use std::io::{Read, Write};
 use std::path::Path;
 use std::process::{Child, Command, ExitCode, Stdio};
@@ -10,6 +12,7 @@ use reference::random::Random;
 use reference::record::{CYCLE_AT, NUMBER_AT};
 use reference::report::{report, INPUT_MOST};
 use reference::samples::{busy, put_u16, put_u32, quiet, random_record, RecordBytes};
+use reference::sheet::sheets;
 use reference::vectors::archive::write;
 
 const SEED: u64 = 0xc033_9a4e;
@@ -133,17 +136,15 @@ fn inputs() -> Vec<Vec<u8>> {
     inputs
 }
 
-fn main() -> ExitCode {
-    let Some(program) = std::env::args_os().nth(1) else {
-        eprintln!("usage: compare PRODUCT");
-        return ExitCode::FAILURE;
-    };
-    let program = Path::new(&program);
-    let inputs = inputs();
+/// Appends the reference's text of an input.
+type Text = fn(&[u8], &mut Vec<u8>);
+
+/// On how many of the inputs the program prints another text.
+fn count_differing(program: &Path, text: Text, inputs: &[Vec<u8>]) -> usize {
     let mut differing = 0;
     for (n, input) in inputs.iter().enumerate() {
         let mut expected = Vec::new();
-        report(&input[..input.len().min(INPUT_MOST + 1)], &mut expected);
+        text(&input[..input.len().min(INPUT_MOST + 1)], &mut expected);
         if printed(program, input) != expected {
             println!("input {n} of {} bytes: the text differs", input.len());
             differing += 1;
@@ -151,6 +152,24 @@ fn main() -> ExitCode {
     }
     // the archive of 511 records, whose text is long
     ends_unread(program, &inputs[ARCHIVES]);
-    println!("{} inputs, {differing} differ", inputs.len());
-    ExitCode::from(u8::from(differing > 0))
+    differing
+}
+
+/// Compares one program and prints its line; true where no text differs.
+fn same_text(name: &str, program: &OsStr, text: Text, inputs: &[Vec<u8>]) -> bool {
+    let differing = count_differing(Path::new(program), text, inputs);
+    println!("{name}: {} inputs, {differing} differ", inputs.len());
+    differing == 0
+}
+
+fn main() -> ExitCode {
+    let arguments: Vec<OsString> = std::env::args_os().skip(1).collect();
+    let [product, sheet_program] = &arguments[..] else {
+        eprintln!("usage: compare PRODUCT SHEETS");
+        return ExitCode::FAILURE;
+    };
+    let inputs = inputs();
+    let same_reports = same_text("report", product, report, &inputs);
+    let same_sheets = same_text("sheets", sheet_program, sheets, &inputs);
+    ExitCode::from(u8::from(!(same_reports && same_sheets)))
 }

@@ -9,6 +9,7 @@ pub mod orders;
 pub mod points;
 pub mod range_ends;
 pub mod rest;
+pub mod sheet;
 pub mod working;
 
 use std::collections::BTreeMap;
@@ -128,13 +129,14 @@ impl File {
     }
 }
 
-/// The five files with the names of their directories.
-pub fn all() -> [(&'static str, File); 5] {
+/// The six files with the names of their directories.
+pub fn all() -> [(&'static str, File); 6] {
     [
         ("discharge_vectors", discharge::file()),
         ("archive_vectors", archive::file()),
         ("balance_vectors", balance::file()),
         ("working_vectors", working::file()),
         ("point_vectors", points::file()),
+        ("sheet_vectors", sheet::file()),
     ]
 }

@@ -193,11 +193,15 @@ fn add_fault_pairs(file: &mut File) {
 
 /// The printed example.
 fn add_example(file: &mut File) {
+    add_exact(file, 60, &example());
+}
+
+pub(super) fn example() -> RecordBytes {
     let mut example = quiet(60);
     put_u16(&mut example, ACCESS_AT, 360);
     put_exits(&mut example, [0, 360, 0, 0]);
     put_downstream(&mut example, [(0, 0), (0, 30), (0, 0)]);
-    add_exact(file, 60, &example);
+    example
 }
 
 /// The turns of t'.
@@ -279,12 +283,13 @@ pub(super) fn with_idle_entries(idle: u32) -> RecordBytes {
 fn add_balances(file: &mut File) {
     let by_rounds = BY_ROUNDS.iter().map(|(_, inputs)| inputs);
     for inputs in by_rounds.chain(BY_STOP.iter().step_by(3).map(|(_, _, inputs)| inputs)) {
-        add_exact(file, CYCLE_LEAST, &balance_record(inputs));
+        add_exact(file, CYCLE_LEAST, &balance_record(CYCLE_LEAST, inputs));
     }
 }
 
-fn balance_record((discharge, exits, seeds): &Inputs) -> RecordBytes {
-    let mut record = quiet(CYCLE_LEAST);
+/// A record that discharges as the balance says, where its greens have the capacity.
+pub(super) fn balance_record(cycle: u32, (discharge, exits, seeds): &Inputs) -> RecordBytes {
+    let mut record = quiet(cycle);
     for i in 0..3u32 {
         put_entry(
             &mut record,

@@ -3,9 +3,9 @@
 //! usage: points_bench [REPEATS]
 
 use std::hint::black_box;
-use std::time::{Duration, Instant};
 
 use linked::calls;
+use linked::timing::{median, once, repeats};
 use reference::dispersion::Ending;
 use reference::points::{work_points_ending, Points};
 use reference::random::Random;
@@ -93,22 +93,6 @@ fn samples(cycle: u32, running_time: Option<u32>, count: u32) -> Vec<Sample> {
         .collect()
 }
 
-/// The time of one call, which must accept.
-fn once(call: impl FnOnce() -> u32) -> Duration {
-    let start = Instant::now();
-    let number = call();
-    let time = start.elapsed();
-    assert_eq!(number, 0);
-    time
-}
-
-/// Microseconds.
-fn median(mut times: Vec<Duration>) -> f64 {
-    times.sort();
-    times[times.len() / 2].as_secs_f64() * 1e6
-}
-
-/// Single calls in turn, so that what else the machine does falls on few of them.
 fn side_by_side(samples: &[Sample], repeats: usize) -> [f64; 3] {
     let mut profiles = Profiles::new();
     let mut times = [(); 3].map(|()| Vec::new());
@@ -121,8 +105,7 @@ fn side_by_side(samples: &[Sample], repeats: usize) -> [f64; 3] {
 }
 
 fn main() {
-    let repeats = std::env::args().nth(1);
-    let repeats = repeats.map_or(41, |n| n.parse().expect("REPEATS"));
+    let repeats = repeats();
     println!("cycle  street points  library us  plain us  at rest us  to plain  to at rest");
     for (cycle, running_time) in STREETS {
         for count in COUNTS {
