@@ -1,6 +1,6 @@
 -- What a decision means: one with the number 0 is worked, and its pair flows use up each entry's discharge.
 -- Assumes nothing.
-use Prim.Native.Nat.{ℕ}
+use Prim.Native.Nat.{ℕ, _≤_}
 use mathlib.Core.Bool.{Bool, true, false, not, _||_}
 use mathlib.Core.List.{[], _∷_, map}
 use mathlib.Core.Path.{_≡_, refl}
@@ -49,3 +49,19 @@ module _ (o : Counts) where
   pub shared-adds : (exits : Counts) (s : Seeds) → refusalOf (decisionOf o exits s .outcome) ≡ 0 →
       map sum (decisionOf o exits s .pairs .rows) ≡ map flowUnits (o .left ∷ o .through ∷ o .right ∷ o .access ∷ [])
   shared-adds exits s e = let f = from-cells exits s e in rw (f .rows) (rows-add (f .cells) o)
+
+  -- the number is 0, 13, 14 or 15
+  number-by-settling : (k : Settling) (n : ℕ) (c : FlowTable) → refusalOf (bySettling k n c o .outcome) ≤ 15
+  number-by-settling (settling.Settled x) n c = omega arith
+  number-by-settling (settling.Unsettled x) n c = omega arith
+
+  number-by-tests : (t u : Bool) (b : Balance) → refusalOf (decided o (need 13 t (need 14 u (ok b))) .outcome) ≤ 15
+  unfolding need settledTo
+  number-by-tests false u b = omega arith
+  number-by-tests true false b = omega arith
+  number-by-tests true true b = number-by-settling (b .settling) (b .rounds) (b .cells)
+
+  pub decision-number : (exits : Counts) (s : Seeds) → refusalOf (decisionOf o exits s .outcome) ≤ 15
+  unfolding decisionOf
+  decision-number exits s =
+      number-by-tests (not (noVolume o exits)) (not (anyUnservedEntry o exits s || anyUnservedExit o exits s)) (balanced o exits s)

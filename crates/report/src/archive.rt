@@ -1,4 +1,5 @@
-// The records of an archive, each worked from its own bytes in one pass. The work profiles are the caller's, so that they are made once.
+// The records of an archive, each worked from its own bytes in one pass, and what is printed of each: its lines or its sheet.
+// The work profiles are the caller's, so that they are made once.
 ghost use mathlib.Core.Path.{_≡_};
 ghost use lib.ListN.{length};
 ghost use Rattle.limits.specs.Limits.{mostCycle};
@@ -9,6 +10,7 @@ ghost use Rattle.propagation.specs.Steps.{Room};
 ghost use Rattle.archive_format.specs.Archive.{filedFrom};
 ghost use Rattle.archive_open.specs.Walking.{Walk};
 ghost use Rattle.report.specs.Report.{archiveText, inputText, recordsText, segmentText};
+use crate::Form;
 use crate::INPUT_LIMIT;
 use archive_format::FIRST_EDITION;
 use archive_open::Opened;
@@ -16,6 +18,7 @@ use archive_open::next_place;
 use archive_open::open;
 
 fn segment_text(
+    form: Form,
     text: &mut [u8],
     at: usize,
     bytes: &[u8],
@@ -24,16 +27,20 @@ fn segment_text(
     second: &mut [u32],
 ) -> usize
     requires { ⌜ (length (now bytes) ≡ size) × Room mostCycle (profiles (now output) (now first) (now second)) ⌝ }
-    ensures { λ r. ⌜ Wrote (now (text .entry)) at (segmentText (now (bytes .entry))) (now (text .exit)) r ⌝ }
+    ensures { λ r. ⌜ Wrote (now (text .entry)) at (segmentText form (now (bytes .entry))) (now (text .exit)) r ⌝ }
 {
     let number = octets::word4_at(bytes, segment::NUMBER_AT);
     let cycle = octets::word2_at(bytes, segment::CYCLE_AT);
     let w = working::work(bytes, output, first, second);
-    report_record::record_text(text, at, number, cycle, w)
+    match form {
+        Form::Lines => report_record::record_text(text, at, number, cycle, w),
+        Form::Sheet => sheet_page::record_page(text, at, number, cycle, w, &output[..]),
+    }
 }
 
 // So many records from place 0 on, in order.
 fn records_text(
+    form: Form,
     text: &mut [u8],
     at: usize,
     archive: &[u8],
@@ -43,13 +50,14 @@ fn records_text(
     second: &mut [u32],
 ) -> usize
     requires { ⌜ Walk size (now archive) count 0 × Room mostCycle (profiles (now output) (now first) (now second)) ⌝ }
-    ensures { λ r. ⌜ Wrote (now (text .entry)) at (recordsText (filedFrom size count (now (archive .entry)) 0)) (now (text .exit)) r ⌝ }
+    ensures { λ r. ⌜ Wrote (now (text .entry)) at (recordsText form (filedFrom size count (now (archive .entry)) 0)) (now (text .exit)) r ⌝ }
 {
     let mut left = count;
     let mut place: usize = 0;
     let mut p = at;
     while 0 < left {
         p = segment_text(
+            form,
             text,
             p,
             &archive[place..place + segment::SIZE],
@@ -64,6 +72,7 @@ fn records_text(
 }
 
 fn archive_text(
+    form: Form,
     text: &mut [u8],
     at: usize,
     archive: &[u8],
@@ -72,7 +81,7 @@ fn archive_text(
     second: &mut [u32],
 ) -> usize
     requires { ⌜ Room mostCycle (profiles (now output) (now first) (now second)) ⌝ }
-    ensures { λ r. ⌜ Wrote (now (text .entry)) at (archiveText (now (archive .entry))) (now (text .exit)) r ⌝ }
+    ensures { λ r. ⌜ Wrote (now (text .entry)) at (archiveText form (now (archive .entry))) (now (text .exit)) r ⌝ }
 {
     let opened = open(FIRST_EDITION, archive);
     match opened {
@@ -81,11 +90,12 @@ fn archive_text(
             count,
             trailer: _,
             last: _,
-        } => records_text(text, at, archive, count, output, first, second),
+        } => records_text(form, text, at, archive, count, output, first, second),
     }
 }
 
 pub(crate) fn input_text(
+    form: Form,
     text: &mut [u8],
     at: usize,
     archive: &[u8],
@@ -94,10 +104,10 @@ pub(crate) fn input_text(
     second: &mut [u32],
 ) -> usize
     requires { ⌜ Room mostCycle (profiles (now output) (now first) (now second)) ⌝ }
-    ensures { λ r. ⌜ Wrote (now (text .entry)) at (inputText (now (archive .entry))) (now (text .exit)) r ⌝ }
+    ensures { λ r. ⌜ Wrote (now (text .entry)) at (inputText form (now (archive .entry))) (now (text .exit)) r ⌝ }
 {
     if INPUT_LIMIT < archive.len() {
         return report_lines::archive_refused_line(text, at, 2);
     }
-    archive_text(text, at, archive, output, first, second)
+    archive_text(form, text, at, archive, output, first, second)
 }

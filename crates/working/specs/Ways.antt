@@ -1,18 +1,24 @@
 -- The ways of a call by what is decided of its record and of the lent profiles' lengths: refused, or accepted and decided by its volumes.
-use Prim.Native.Nat.{ℕ}
+use Prim.Native.Nat.{ℕ, _≤_}
+use native.Mathlib.Omega.{arith}
 use mathlib.Core.Path.{_≡_, refl, ap, sym, _∙_}
 use mathlib.Core.List.{List}
+use lib.Dec.{leb}
 use lib.Ieee.{Float}
 use lib.ListN.{length}
+use borrow.Author.Tests.{leb-true}
 use Rattle.refusal.specs.Refusal.{Or, false-true}
 use Rattle.segment.specs.declared.Segment.{Segment}
 use Rattle.validation.specs.declared.Checked.{Checked}
 use Rattle.validation.specs.declared.Checked.the-variants as checked
 use Rattle.validation.specs.Validation.{checkedOf}
 use Rattle.validation.specs.Accepted.{Accepted}
-use Rattle.validation.specs.Accepting.{checked-refused, checked-valid, accept-passed}
+use Rattle.validation.specs.Accepting.{checked-refused, checked-valid, accept-passed, accept-numbers}
 use Rattle.balance_decision.specs.declared.Outcome.{Outcome}
 use Rattle.balance_decision.specs.declared.Outcome.the-variants.{Worked, Refused}
+use Rattle.balance_decision.specs.Outcome.{refusalOf}
+use Rattle.balance_decision.specs.Meaning.{decision-number}
+use Rattle.metering.specs.Metering.{dischargeVolumes}
 use Rattle.propagation.specs.Propagation.{Profiles}
 use Rattle.propagation.specs.Steps.{Room}
 use Rattle.working_outcome.specs.Answer.{refusedWith}
@@ -55,3 +61,14 @@ call-worked l p x e = go (checkedOf (acceptFor l p)) refl
           works = works;
           is = is ∙ ap (λ (o : Outcome). byOutcome o s (decisionFor s) p) works;
         }
+
+-- a refusal's number is one of those listed
+pub call-number : (l : List ℕ) (p : Profiles) → refusalOf (callOf l p .answer .outcome) ≤ 16
+unfolding decisionFor
+call-number l p = go (checkedOf (acceptFor l p)) refl
+  where
+    go : (c : Checked) → checkedOf (acceptFor l p) ≡ c → refusalOf (callOf l p .answer .outcome) ≤ 16
+    go (checked.Refused n) ec =
+        rw (call-refused l p n ec) (leb-true n 16 (accept-numbers l _ (λ m _. leb m 16) refl (λ s. refl) n (checked-refused (acceptFor l p) n ec)))
+    go (checked.Valid s) ec =
+        rw (call-accepted l p s ec, decided-outcome s (decisionFor s) p) (omega (arith, decision-number (dischargeVolumes s) (s .exits) (s .seeds)))

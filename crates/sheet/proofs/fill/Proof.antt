@@ -1,47 +1,21 @@
+-- The profiles are filled, then the page from what was answered and left.
 use borrow.Author.Needs.{needs}
+use Rattle.propagation.specs.Propagation.{profiles}
+use Rattle.sheet.proofs.Deciding.{sheet-filled}
 use Rattle.sheet.proofs.fill.Statement.{statement}
 use Rattle.sheet.proofs.fill.Tie as tie
-use Rattle.sheet.proofs.fill.Reads as reads
-use Rattle.sheet.proofs.fill.Lts as lts
-use Rattle.sheet_page.proofs.worked_page.Reads as worked-page-reads
-use Rattle.working.proofs.fill.Reads as fill-reads
 
--- src/lib.rt:35:9
-fill-requires : tie.Need-fill-requires
-fill-requires c κs = search needs
-
--- src/lib.rt:36:5
-worked-page-requires : tie.Need-worked-page-requires
-worked-page-requires c κs = search needs
-
--- src/lib.rt:21:1
-same-length : tie.Need-same-length
-same-length c = search needs
-
--- src/lib.rt:21:1
-same-length-2 : tie.Need-same-length-2
-same-length-2 c = search needs
-
--- src/lib.rt:21:1
-same-length-3 : tie.Need-same-length-3
-same-length-3 c = search needs
-
--- src/lib.rt:21:1
-same-length-4 : tie.Need-same-length-4
-same-length-4 c = search needs
-
--- src/lib.rt:21:1
 returns : tie.Need-returns
-returns c = ?
+returns c =
+    let at-page = c .before .before in
+    let profiles-back : tie.After-slice-known7 = at-page .before .before .before in
+    let output-back = profiles-back .before .before .before .before .before in
+    let f = output-back .before in
+    let known : tie.After-slice-known4 = f .before .before .before .before in
+    let start = known .before .before .before .before in
+    sheet-filled (start .pre .0) _ (start .fits .number) {p′ = profiles _ _ _} (f .fill .ensures) _ (start .pre .1) (at-page .worked-page .ensures)
 
 pub fill-spec : {M : Type 1} → statement M
 fill-spec =
     tie.close
-    (tie.spec
-    fill-requires
-    worked-page-requires
-    same-length
-    same-length-2
-    same-length-3
-    same-length-4
-    returns)
+    (tie.spec (λ c κs. search needs) (λ c κs. search needs) (λ c. search needs) (λ c. search needs) (λ c. search needs) (λ c. search needs) returns)

@@ -1,74 +1,41 @@
+-- A record refused, or accepted and its sheet made: either way the call's answer, its profiles, its page and demand 3.
 use borrow.Author.Needs.{needs}
+use mathlib.Core.Path.{sym, _∙_}
+use Rattle.propagation.specs.Propagation.{profiles}
+use Rattle.sheet.proofs.Deciding.{record-passed, record-accepted, record-refused}
 use Rattle.sheet.proofs.sheet.Statement.{statement}
 use Rattle.sheet.proofs.sheet.Tie as tie
-use Rattle.sheet.proofs.sheet.Reads as reads
-use Rattle.sheet.proofs.sheet.Lts as lts
-use Rattle.octets.proofs.word4_at.Reads as word4-at-reads
-use Rattle.sheet.proofs.sheet_accepted.Reads as sheet-accepted-reads
-use Rattle.working.proofs.accept.Reads as accept-reads
-use Rattle.working_outcome.proofs.refused.Reads as refused-reads
 
--- src/lib.rt:80:9
-accept-requires : tie.Need-accept-requires
-accept-requires c κs = search needs
+abbrev number-of : tie.After-sheet-accepted-arg → tie.After-word4-at
+number-of c = c .before
 
--- src/lib.rt:82:26
-enum-known-accepted : tie.Need-enum-known-accepted
-enum-known-accepted c = search needs
+abbrev valid-of : tie.After-word4-at → tie.After-accepted2
+valid-of c = c .before .before
 
--- src/lib.rt:82:32
-refused-requires : tie.Need-refused-requires
-refused-requires c κs = search needs
-
--- src/lib.rt:83:24
-enum-known-accepted-2 : tie.Need-enum-known-accepted-2
-enum-known-accepted-2 c = search needs
-
--- src/lib.rt:84:17
 word4-at-requires : tie.Need-word4-at-requires
 word4-at-requires c κs = ?
 
--- src/lib.rt:85:13
 sheet-accepted-requires : tie.Need-sheet-accepted-requires
-sheet-accepted-requires c κs = ?
+sheet-accepted-requires c κs =
+    let at-valid = valid-of (number-of (c .before .before .before)) in
+    record-passed _ (profiles _ _ _) _ _ (sym (at-valid .before .before .accept .ensures) ∙ at-valid .accepted2 .given .1)
 
--- src/lib.rt:70:1
 returns : tie.Need-returns
-returns c = ?
+returns c =
+    let at-refused = c .before .before in
+    record-refused _ (profiles _ _ _) _ _ (sym (at-refused .before .before .accept .ensures) ∙ at-refused .accepted .given .1) _ (c .refused .ensures)
 
--- src/lib.rt:70:1
-same-length : tie.Need-same-length
-same-length c = search needs
-
--- src/lib.rt:70:1
-same-length-2 : tie.Need-same-length-2
-same-length-2 c = search needs
-
--- src/lib.rt:70:1
-same-length-3 : tie.Need-same-length-3
-same-length-3 c = search needs
-
--- src/lib.rt:70:1
-same-length-4 : tie.Need-same-length-4
-same-length-4 c = search needs
-
--- src/lib.rt:70:1
 returns-2 : tie.Need-returns-2
-returns-2 c = ?
+returns-2 c =
+    let output-back : tie.After-output = c .before .before .before .before .before in
+    let w = output-back .before .before .before in
+    let n = number-of (w .before .before .before .before) in
+    let at-valid = valid-of n in
+    record-accepted _ (profiles _ _ _) _ _ (sym (at-valid .before .before .accept .ensures) ∙ at-valid .accepted2 .given .1) (n .word4-at .ensures)
+    _ (profiles _ _ _) _ (w .sheet-accepted .ensures)
 
 pub sheet-spec : {M : Type 1} → statement M
 sheet-spec =
     tie.close
-    (tie.spec
-    accept-requires
-    enum-known-accepted
-    refused-requires
-    enum-known-accepted-2
-    word4-at-requires
-    sheet-accepted-requires
-    returns
-    same-length
-    same-length-2
-    same-length-3
-    same-length-4
-    returns-2)
+    (tie.spec (λ c κs. search needs) (λ c. search needs) (λ c κs. search needs) (λ c. search needs) word4-at-requires sheet-accepted-requires returns
+    (λ c. search needs) (λ c. search needs) (λ c. search needs) (λ c. search needs) returns-2)

@@ -1,93 +1,37 @@
+-- The volumes are decided first, then the page buffer; refused, nothing is written.
 use borrow.Author.Needs.{needs}
+use Rattle.propagation.specs.Propagation.{profiles}
+use Rattle.sheet.proofs.Deciding.{sheet-refused, sheet-unsettled, sheet-short, sheet-printed}
 use Rattle.sheet.proofs.sheet_accepted.Statement.{statement}
 use Rattle.sheet.proofs.sheet_accepted.Tie as tie
-use Rattle.sheet.proofs.sheet_accepted.Reads as reads
-use Rattle.sheet.proofs.sheet_accepted.Lts as lts
-use Rattle.sheet.proofs.fill.Reads as fill-reads
-use Rattle.working.proofs.decide.Reads as decide-reads
-use Rattle.working_outcome.proofs.refused.Reads as refused-reads
 
--- src/lib.rt:54:9
-decide-requires : tie.Need-decide-requires
-decide-requires c κs = search needs
-
--- src/lib.rt:57:32
-enum-told : tie.Need-enum-told
-enum-told c = search needs
-
--- src/lib.rt:57:32
-refused-requires : tie.Need-refused-requires
-refused-requires c κs = search needs
-
--- src/lib.rt:58:34
-enum-told-2 : tie.Need-enum-told-2
-enum-told-2 c = search needs
-
--- src/lib.rt:58:34
-refused-requires-2 : tie.Need-refused-requires-2
-refused-requires-2 c κs = search needs
-
--- src/lib.rt:59:25
-enum-known-outcome : tie.Need-enum-known-outcome
-enum-known-outcome c = search needs
-
--- src/lib.rt:61:17
-refused-requires-3 : tie.Need-refused-requires-3
-refused-requires-3 c κs = search needs
-
--- src/lib.rt:61:17
 returns : tie.Need-returns
-returns c = ?
+returns c =
+    let short = c .before in
+    let o : tie.After-outcome = short .before .before in
+    sheet-short _ _ (profiles _ _ _) _ (o .before .before .decide .ensures) _ (o .outcome .given .1) (short .if1 .taken) (c .refused3 .ensures)
 
--- src/lib.rt:63:13
-fill-requires : tie.Need-fill-requires
-fill-requires c κs = search needs
-
--- src/lib.rt:41:1
 returns-2 : tie.Need-returns-2
-returns-2 c = ?
+returns-2 c =
+    let told = c .before in
+    sheet-refused _ _ (profiles _ _ _) _ (told .before .before .decide .ensures) _ (told .enum-told .given .1) (c .refused .ensures)
 
--- src/lib.rt:41:1
 returns-3 : tie.Need-returns-3
-returns-3 c = ?
+returns-3 c =
+    let told = c .before in
+    sheet-unsettled _ _ (profiles _ _ _) _ (told .before .before .decide .ensures) _ (told .enum-told2 .given .1) (c .refused2 .ensures)
 
--- src/lib.rt:41:1
-same-length : tie.Need-same-length
-same-length c = search needs
-
--- src/lib.rt:41:1
-same-length-2 : tie.Need-same-length-2
-same-length-2 c = search needs
-
--- src/lib.rt:41:1
-same-length-3 : tie.Need-same-length-3
-same-length-3 c = search needs
-
--- src/lib.rt:41:1
-same-length-4 : tie.Need-same-length-4
-same-length-4 c = search needs
-
--- src/lib.rt:41:1
 returns-4 : tie.Need-returns-4
-returns-4 c = ?
+returns-4 c =
+    let output-back : tie.After-output = c .before .before .before .before .before in
+    let f = output-back .before .before .before in
+    let roomy : tie.Else1 = f .before .before .before .before .before in
+    let o : tie.After-outcome = roomy .before .before in
+    sheet-printed _ _ (profiles _ _ _) _ (o .before .before .decide .ensures) _ (o .outcome .given .1) (roomy .if1 .left) {p′ = profiles _ _ _} (f .fill .ensures)
 
 pub sheet-accepted-spec : {M : Type 1} → statement M
 sheet-accepted-spec =
     tie.close
-    (tie.spec
-    decide-requires
-    enum-told
-    refused-requires
-    enum-told-2
-    refused-requires-2
-    enum-known-outcome
-    refused-requires-3
-    returns
-    fill-requires
-    returns-2
-    returns-3
-    same-length
-    same-length-2
-    same-length-3
-    same-length-4
-    returns-4)
+    (tie.spec (λ c κs. search needs) (λ c. search needs) (λ c κs. search needs) (λ c. search needs) (λ c κs. search needs) (λ c. search needs)
+    (λ c κs. search needs) returns (λ c κs. search needs) returns-2 returns-3 (λ c. search needs) (λ c. search needs) (λ c. search needs)
+    (λ c. search needs) returns-4)
