@@ -1,19 +1,22 @@
--- What the settling means: the rounds one after another, and the three ways in which they end.
+-- What the settling means: the rounds one after another, no more than the limit, and the three ways in which they end.
 -- Assumes nothing.
-use Prim.Native.Nat.{ℕ, zero, suc, _+_, _<_}
+use Prim.Native.Nat.{ℕ, zero, suc, _+_, _≤_, _<_}
 use mathlib.Core.Bool.{Bool, true, false}
 use mathlib.Core.Path.{_≡_, refl, subst}
 use native.Mathlib.Nat.{not-suc-le-zero}
 use native.Mathlib.Numerals.{add-one}
 use native.Mathlib.Omega.{arith}
 use borrow.Author.Count.{below-more}
-use lib.Ieee.{lt}
+use lib.Ieee.{Float, lt}
+use Rattle.movements.specs.declared.Counts.{Counts}
+use Rattle.movements.specs.declared.Seeds.{Seeds}
 use Rattle.balance_flows.specs.declared.Flows.{Flows}
 use Rattle.balance_flows.specs.declared.FlowTable.{FlowTable}
 use Rattle.balance_round.specs.declared.Round.{Round}
 use Rattle.balance_round.specs.Round.{roundOf, stops}
 use Rattle.balance.specs.declared.Balance.{Balance}
-use Rattle.balance.specs.Settling.{threshold, cellsOf, unsettled, closed, Running, Ended, start, after, next, rounds, report, settle}
+use Rattle.balance.specs.Settling.{roundLimit, threshold, cellsOf, unsettled, byCells, closed}
+use Rattle.balance.specs.Settling.{Running, Ended, start, after, next, rounds, report, settle, balanced}
 
 -- round k; 0 is what stands before the first. Each starts from the adjusted origins of the one before.
 unfoldable pub nth : Flows → Flows → FlowTable → ℕ → Round
@@ -34,6 +37,11 @@ pub data Ending (o d : Flows) (p : FlowTable) (limit : ℕ) : Balance → Type 0
   settles : (n : ℕ) → n < limit → Open o d p n → stops o d (nth o d p (suc n)) ≡ false → lt (nth o d p (suc n) .change) threshold ≡ true
       → Ending o d p limit (closed (cellsOf (nth o d p (suc n) .origins) (nth o d p (suc n) .ratios) p) (nth o d p (suc n) .change) (suc n))
   spent : Open o d p limit → Ending o d p limit (unsettled (nth o d p limit .change) limit)
+
+-- finite or not, the cells do not change the rounds
+cells-rounds : (b : Bool) (c : FlowTable) (sum : Float) (n : ℕ) → byCells b c sum n .rounds ≡ n
+cells-rounds true c sum n = refl
+cells-rounds false c sum n = refl
 
 module _ (o d : Flows) (p : FlowTable) where
   pub ended : (k : ℕ) (b : Balance) → rounds k o d p (Ended b) ≡ Ended b
@@ -61,3 +69,17 @@ module _ (o d : Flows) (p : FlowTable) where
     pub settle-ends : Ending o d p limit (settle limit o d p)
     unfolding settle nth
     settle-ends = more limit 0 (omega arith) (λ k h. absurd (not-suc-le-zero h))
+
+    -- none of the three ways has more rounds than the limit
+    ending-rounds : {b : Balance} → Ending o d p limit b → b .rounds ≤ limit
+    unfolding closed
+    ending-rounds (stopped n h op e) = omega arith
+    ending-rounds (settles n h op e f) = rw cells-rounds h
+    ending-rounds (spent op) = omega arith
+
+    pub settle-rounds : settle limit o d p .rounds ≤ limit
+    settle-rounds = ending-rounds settle-ends
+
+pub balanced-rounds : (o exits : Counts) (seeds : Seeds) → balanced o exits seeds .rounds ≤ roundLimit
+unfolding balanced
+balanced-rounds o exits seeds = settle-rounds _ _ _ roundLimit

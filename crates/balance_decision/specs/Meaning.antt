@@ -1,4 +1,4 @@
--- What a decision means: one with the number 0 is worked, and its pair flows use up each entry's discharge.
+-- What a decision means: one with the number 0 is worked, and its pair flows use up each entry's discharge; none has more rounds than the limit.
 -- Assumes nothing.
 use Prim.Native.Nat.{ℕ, _≤_}
 use mathlib.Core.Bool.{Bool, true, false, not, _||_}
@@ -14,7 +14,8 @@ use Rattle.balance_flows.specs.declared.FlowTable.{FlowTable}
 use Rattle.balance.specs.declared.Settling.{Settling}
 use Rattle.balance.specs.declared.Settling.the-variants as settling
 use Rattle.balance.specs.declared.Balance.{Balance}
-use Rattle.balance.specs.Settling.{balanced}
+use Rattle.balance.specs.Settling.{roundLimit, balanced}
+use Rattle.balance.specs.Ending.{balanced-rounds}
 use Rattle.lists.specs.Lists.{sum}
 use Rattle.balance_pairs.specs.Pairs.{pairRows, rows-add}
 use Rattle.balance_refusals.specs.Refusals.{noVolume, anyUnservedEntry, anyUnservedExit}
@@ -65,3 +66,19 @@ module _ (o : Counts) where
   unfolding decisionOf
   decision-number exits s =
       number-by-tests (not (noVolume o exits)) (not (anyUnservedEntry o exits s || anyUnservedExit o exits s)) (balanced o exits s)
+
+  -- ---- the rounds of a decision, none of one that is refused
+
+  settling-rounds : (k : Settling) {n : ℕ} (c : FlowTable) → n ≤ roundLimit → bySettling k n c o .rounds ≤ roundLimit
+  settling-rounds (settling.Settled x) c h = h
+  settling-rounds (settling.Unsettled x) c h = omega arith
+
+  tests-rounds : (t u : Bool) (b : Balance) → b .rounds ≤ roundLimit → decided o (need 13 t (need 14 u (ok b))) .rounds ≤ roundLimit
+  unfolding need settledTo
+  tests-rounds false u b h = omega arith
+  tests-rounds true false b h = omega arith
+  tests-rounds true true b h = settling-rounds (b .settling) (b .cells) h
+
+  pub decision-rounds : (exits : Counts) (s : Seeds) → decisionOf o exits s .rounds ≤ roundLimit
+  unfolding decisionOf
+  decision-rounds exits s = tests-rounds _ _ (balanced o exits s) (balanced-rounds o exits s)

@@ -1,8 +1,8 @@
 -- The largest flow past a point, and a point at the end of the segment.
-use Prim.Native.Nat.{ℕ, _+_, _*_, _≤_, _<_}
+use Prim.Native.Nat.{ℕ, _≤_, _<_}
 use native.Mathlib.Omega.{arith}
 use mathlib.Core.Path.{_≡_}
-use Rattle.limits.specs.Limits.{entryLimit, flowLimit}
+use Rattle.limits.specs.Limits.{flowLimit}
 use Rattle.movements.specs.Movements.{flowUnits}
 use Rattle.segment.specs.declared.Entry.{Entry}
 use Rattle.segment.specs.declared.Segment.{Segment}
@@ -11,6 +11,7 @@ use Rattle.entries.specs.Entries.{entryProfile}
 use Rattle.entries.specs.Laws.{entry-le}
 use Rattle.dispersion.specs.Cycles.{reported-le}
 use Rattle.propagation.specs.Propagation.{cycles, entryArrivals}
+use Rattle.propagation.specs.Largest.{largestFlow}
 use Rattle.points.specs.declared.Point.{Point}
 use Rattle.point_flows.specs.PointFlows.{pointArrivals, passesIn, pointFlow}
 use Rattle.point_flows.specs.Laws.{passes-is}
@@ -26,9 +27,8 @@ module _ (s : Segment) (p : Point) (e : Entry) where
   unfolding pointArrivals entryArrivals
   at-the-end h = rw h
 
--- the largest flow, 42000000: access and three saturated entries
-pub point-flow-le : (s : Segment) (p : Point) (step : ℕ) → Ranges s → 0 < step → step ≤ s .cycle →
-    pointFlow s p step ≤ flowUnits entryLimit + 3 * flowUnits flowLimit
+-- no more than the largest flow of an exit
+pub point-flow-le : (s : Segment) (p : Point) (step : ℕ) → Ranges s → 0 < step → step ≤ s .cycle → pointFlow s p step ≤ largestFlow
 unfolding pointFlow
 point-flow-le s p step r first last =
     omega (

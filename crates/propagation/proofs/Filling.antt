@@ -13,13 +13,14 @@ use Rattle.segment.specs.declared.Segment.{Segment}
 use Rattle.ranges.specs.Ranges.{Ranges, EntryRanges}
 use Rattle.metering.specs.Metering.{dischargeVolume, dischargeUnits}
 use Rattle.entries.specs.Entries.{entryProfile}
-use Rattle.entries.specs.Laws.{entry-length, entry-le}
+use Rattle.entries.specs.Laws.{entry-length}
 use Rattle.dispersion.specs.Dispersion.{arrivalTimeOf, reported}
-use Rattle.dispersion.specs.Cycles.{reported-length, reported-le}
+use Rattle.dispersion.specs.Cycles.{reported-length}
 use Rattle.arrivals.specs.Arrivals.{arrivalLimit, runLimit, begun, fourRuns}
-use Rattle.arrivals.specs.Laws.{runs-le, begun-runs, added-runs, lands-le}
+use Rattle.arrivals.specs.Laws.{runs-le, begun-runs, added-runs}
 use Rattle.propagation.specs.Propagation.{Profiles, profiles, cyclesBefore, cycles, pairFlow, entryArrivals, pairOf, landsIn, flowAt, filledOf}
 use Rattle.propagation.specs.Steps.{spreadStep, FillEntryFits, entryStep, Room, RowsFit, FillFits, room-kept}
+use Rattle.propagation.specs.Largest.{lands-in-le}
 
 -- the flow units that the access entry can bring to a step
 abbrev pub accessLimit : ℕ
@@ -75,13 +76,7 @@ module _ {s : Segment} {p₀ p : Profiles} {b : ℕ} {r : ℕ → ℕ → ℕ} (
         runs = ap (λ (x : Profiles). x .output) ep
             ∙ rw (h .runs, l) (added-runs c (arrivalTimeOf (s .running)) (dischargeUnits c e) (reported (s .running) q cycles) row r
             (drop (4 * c) (p₀ .output)) (omega (arith, ranges .cycle)) four);
-        small = λ j k hj pos fits.
-            omega (
-              arith,
-              h .small j k hj pos fits,
-              lands-le c (arrivalTimeOf (s .running)) k (getD row j 0) (dischargeUnits c e) arrivalLimit (reported (s .running) q cycles) pos fits
-                  (omega (arith, last)) (shares j) (reported-le (s .running) arrivalLimit q cycles (entry-le c e er)),
-            );
+        small = λ j k hj pos fits. omega (arith, h .small j k hj pos fits, lands-in-le s e (getD row j 0) k er (shares j) pos fits);
         first = ap (λ (x : Profiles). drop c (x .first)) ep ∙ rw l (drop-at (reported (s .running) q cycles) (drop c (p .first)) c last) ∙ h .first;
         second = ap (λ (x : Profiles). drop c (x .second)) ep ∙ rw l (drop-at (reported (s .running) q cyclesBefore) (drop c (p .second)) c before) ∙ h .second;
       }

@@ -1,2 +1,3 @@
 pub mod Propagation
 pub mod Steps
+pub mod Largest

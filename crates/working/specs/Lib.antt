@@ -1,3 +1,4 @@
 pub mod Working
 pub mod Decided
 pub mod Ways
+pub mod Sizes
