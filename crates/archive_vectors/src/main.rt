@@ -82,15 +82,6 @@ fn same_find(s: &[u8], archive: &[u8], at: usize) -> bool
         & check::same(title, part(s, at + 16, n))
 }
 
-// The buffer before adding.
-fn fill(out: &mut [u8]) {
-    let mut i = 0;
-    while i < out.len() {
-        out[i] = (i % 251) as u8;
-        i += 1;
-    }
-}
-
 // Adds to a buffer of the length asked for; compares the number and length at `at`, and the buffer with the bytes after them.
 fn same_added(
     s: &[u8],
@@ -102,7 +93,7 @@ fn same_added(
 ) -> bool
     requires { ⌜ at < 17179869184 ⌝ }
 {
-    fill(out);
+    vectors::fill_bytes(out);
     let added = archive_add::add(archive, segment, title, out);
     answers(added, number_at(s, at), length_at(s, at + 4))
         & check::same(&out[..], part(s, at + 8, out.len()))

@@ -10,6 +10,7 @@ use Rattle.accuracy.specs.Accuracy.{Accurate}
 use Rattle.working_outcome.specs.declared.Working.{Working}
 use Rattle.balance_decision.specs.Outcome.{refusalOf, lastSumOf}
 use Rattle.working.specs.Working.{callOf}
+use Rattle.sheet.specs.Sheet.{sheetCallOf}
 use Rattle.points.specs.declared.Points.{Points}
 use Rattle.point_flows.specs.PointAccuracy.{PointsAccurate}
 use Rattle.point_working.specs.declared.PointWorking.{PointWorking}
@@ -60,6 +61,13 @@ pub record SegmentPointWorks (l : List ℕ) (ps : Points) (p : Profiles) (q : Li
   pub passing : q′ ≡ pointCallOf l ps p q .passing
   pub accurate : r .work .number ≡ 0 → Accurate (segmentOf l) (r .work .pairs .rows) p′
   pub points : r .work .number ≡ 0 → PointsAccurate (segmentOf l) ps q′
+
+-- the sheet as called: its answer in numbers, all three profiles, the page buffer, and demand 3 of all that it accepts
+pub record SegmentSheets (l : List ℕ) (p : Profiles) (t : List ℕ) (r : WorkAnswer) (p′ : Profiles) (t′ : List ℕ) : Type 0 where
+  pub answer : r ≡ workAnswer (sheetCallOf l p t .answer)
+  pub after : p′ ≡ sheetCallOf l p t .after
+  pub page : t′ ≡ sheetCallOf l p t .page
+  pub accurate : r .number ≡ 0 → Accurate (segmentOf l) (r .pairs .rows) p′
 
 abbrev pub volumesAnswer : Discharged → VolumesAnswer
 volumesAnswer (RefusedVolumes n) = record { number = n; left = 0; through = 0; right = 0 }

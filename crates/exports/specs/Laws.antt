@@ -1,22 +1,28 @@
 -- What the answers in numbers mean: 0 is an accepted working, the part told of an archive is the title.
 use Prim.Native.Nat.{ℕ}
 use native.Mathlib.Omega.{arith}
+use mathlib.Core.Bool.{Bool, true, false, cond}
 use mathlib.Core.Path.{_≡_, refl, sym, ap, _∙_}
 use mathlib.Core.List.{List}
+use lib.Dec.{leb}
 use lib.Ieee.{Float}
 use lib.ListN.{length, take, drop}
 use Rattle.refusal.specs.Refusal.{Or, refused, ok}
 use Rattle.balance_flows.specs.Flows.{zero64}
+use Rattle.octets.specs.Octets.{word4}
 use Rattle.segment.specs.declared.Segment.{Segment}
+use Rattle.segment.specs.Layout.{numberAt}
 use Rattle.segment.specs.Segment.{segmentOf}
 use Rattle.balance_decision.specs.declared.Outcome.{Outcome}
-use Rattle.balance_decision.specs.declared.Outcome.the-variants.{Worked}
+use Rattle.balance_decision.specs.declared.Outcome.the-variants.{Worked, Refused, Unsettled}
 use Rattle.balance_decision.specs.Outcome.{refusalOf, zero-is-worked}
 use Rattle.balance_decision.specs.Meaning.{from-cells}
 use Rattle.metering.specs.Metering.{dischargeVolumes}
 use Rattle.propagation.specs.Propagation.{Profiles}
 use Rattle.working_outcome.specs.declared.Working.{Working}
 use Rattle.working.specs.Working.{Called, Works, acceptOf, callOf, byRecord, byDecision, decided-outcome, decisionFor}
+use Rattle.page.specs.Page.{pageRoom}
+use Rattle.sheet.specs.Sheet.{SheetCalled, printed, noRoom, sheetBy, sheetCallOf, Sheets}
 use Rattle.points.specs.declared.Points.{Points}
 use Rattle.point_working.specs.declared.PointWorking.{PointWorking}
 use Rattle.point_working.specs.PointWorking as pointed
@@ -34,7 +40,7 @@ use Rattle.exports.specs.declared.PointWorkAnswer.{PointWorkAnswer}
 use Rattle.exports.specs.declared.VolumesAnswer.{VolumesAnswer}
 use Rattle.exports.specs.declared.ValueAnswer.{ValueAnswer}
 use Rattle.exports.specs.declared.TitleAnswer.{TitleAnswer}
-use Rattle.exports.specs.Exports.{SegmentWorks, workAnswer, SegmentPointWorks, pointWorkAnswer, SegmentDischarges, volumesAnswer}
+use Rattle.exports.specs.Exports.{SegmentWorks, workAnswer, SegmentPointWorks, pointWorkAnswer, SegmentSheets, SegmentDischarges, volumesAnswer}
 use Rattle.exports.specs.Exports.{valueAnswer, ArchiveWrites, titleAnswer}
 
 -- what has the number 0 is worked
@@ -92,6 +98,39 @@ segment-point-works l ps p q w p′ q′ r works e =
       passing = ap (λ (c : PointCalled). c .passing) (works .is);
       accurate = λ z. let a = worked z in rw e (works .accurate (a .sum) (a .is));
       points = λ z. let a = worked z in works .points (a .sum) (a .is);
+    }
+
+-- a sheet that is made is that of a record that works
+sheet-call-worked : (l : List ℕ) (p : Profiles) (t : List ℕ) → let o = sheetCallOf l p t .answer .outcome in refusalOf o ≡ 0 → WorkedAt o
+unfolding sheetCallOf
+sheet-call-worked l p t = by-outcome (callOf l p .answer .outcome) refl
+  where
+    number cycle : ℕ
+    number = word4 l numberAt
+    cycle = segmentOf l .cycle
+
+    by-room : (b : Bool) (x : Float) → callOf l p .answer .outcome ≡ Worked x →
+        let o = cond b (printed number cycle (callOf l p) t) (noRoom p t) .answer .outcome in refusalOf o ≡ 0 → WorkedAt o
+    by-room true x e z = record { sum = x; is = e }
+    by-room false x e z = absurd (omega arith)
+
+    by-outcome : (o : Outcome) → callOf l p .answer .outcome ≡ o →
+        let u = sheetBy o number cycle (callOf l p) p t .answer .outcome in refusalOf u ≡ 0 → WorkedAt u
+    by-outcome (Worked x) e = by-room (leb pageRoom (length t)) x e
+    by-outcome (Refused n) e = call-worked l p
+    by-outcome (Unsettled x) e = call-worked l p
+
+-- the sheet's, in numbers
+pub segment-sheets : (l : List ℕ) (p : Profiles) (t : List ℕ) (w : Working) (p′ : Profiles) (t′ : List ℕ) (r : WorkAnswer) →
+    Sheets l p t w p′ t′ → r ≡ workAnswer w → SegmentSheets l p t r p′ t′
+segment-sheets l p t w p′ t′ r sheets e =
+    let same : w ≡ sheetCallOf l p t .answer = ap (λ (c : SheetCalled). c .answer) (sheets .is) in
+    let worked : r .number ≡ 0 → WorkedAt (w .outcome) = rw (e, same) (sheet-call-worked l p t) in
+    record {
+      answer = e ∙ ap workAnswer same;
+      after = ap (λ (c : SheetCalled). c .after) (sheets .is);
+      page = ap (λ (c : SheetCalled). c .page) (sheets .is);
+      accurate = λ z. let a = worked z in rw e (sheets .accurate (a .sum) (a .is));
     }
 
 -- the discharge call's, in numbers

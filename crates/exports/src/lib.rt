@@ -7,9 +7,9 @@ ghost use mathlib.Core.Path.{_≡_};
 ghost use lib.ListN.{length};
 ghost use Rattle.propagation.specs.Propagation.{lent};
 ghost use Rattle.archive_format.specs.Archive.{addOf, answerOf, countOf, findOf, placeOf, firstEdition, titlePartOf};
-ghost use Rattle.report.specs.Report.{reportOf};
-ghost use Rattle.exports.specs.Exports.{SegmentWorks, workAnswer, SegmentPointWorks, pointWorkAnswer, SegmentDischarges, volumesAnswer};
-ghost use Rattle.exports.specs.Exports.{valueAnswer, ArchiveWrites, titleAnswer};
+ghost use Rattle.report.specs.Report.{reportOf, sheetsOf};
+ghost use Rattle.exports.specs.Exports.{SegmentWorks, workAnswer, SegmentPointWorks, pointWorkAnswer, SegmentDischarges, SegmentSheets};
+ghost use Rattle.exports.specs.Exports.{volumesAnswer, valueAnswer, ArchiveWrites, titleAnswer};
 use archive_format::Answer;
 use archive_format::TitlePart;
 use discharge::Discharged;
@@ -165,6 +165,21 @@ pub extern "C" fn segment_work_points(
     point_work_answer(point_working::work_points(bytes, points, output, passing, first, second))
 }
 
+// `sheet::sheet`: 21 where the page buffer is under 4380 bytes.
+#[no_mangle]
+pub extern "C" fn segment_sheet(
+    bytes: &[u8],
+    page: &mut [u8],
+    output: &mut [u32],
+    first: &mut [u32],
+    second: &mut [u32],
+) -> WorkAnswer
+    ensures { λ r. ⌜ SegmentSheets (now (bytes .entry)) (lent (output .entry) (first .entry) (second .entry)) (now (page .entry))
+        r (lent (output .exit) (first .exit) (second .exit)) (now (page .exit)) ⌝ }
+{
+    work_answer(sheet::sheet(bytes, page, output, first, second))
+}
+
 // `discharge::discharge`.
 #[no_mangle]
 pub extern "C" fn segment_discharge(bytes: &[u8], profile: &mut [u32]) -> VolumesAnswer
@@ -237,4 +252,12 @@ pub extern "C" fn archive_report(archive: &[u8], text: &mut [u8]) -> ValueAnswer
     ensures { λ r. ⌜ ArchiveWrites (reportOf (now (archive .entry)) (length (now (text .entry)))) (now (text .entry)) r (now (text .exit)) ⌝ }
 {
     value_answer(report::report(archive, text))
+}
+
+// `report::sheets`: 17 where the buffer is under 2242560 bytes.
+#[no_mangle]
+pub extern "C" fn archive_sheets(archive: &[u8], text: &mut [u8]) -> ValueAnswer
+    ensures { λ r. ⌜ ArchiveWrites (sheetsOf (now (archive .entry)) (length (now (text .entry)))) (now (text .entry)) r (now (text .exit)) ⌝ }
+{
+    value_answer(report::sheets(archive, text))
 }

@@ -15,6 +15,7 @@ use Rattle.segment.specs.Layout.{numberAt}
 use Rattle.ranges.specs.Ranges.{Ranges}
 use Rattle.validation.specs.declared.Checked.the-variants as checked
 use Rattle.validation.specs.Validation.{checkedOf}
+use Rattle.validation.specs.Accepting.{checked-valid, accept-passed}
 use Rattle.balance_decision.specs.declared.Outcome.the-variants.{Worked, Refused, Unsettled}
 use Rattle.balance_decision.specs.declared.Decision.{Decision}
 use Rattle.accuracy.specs.Accuracy.{Accurate}
@@ -22,13 +23,14 @@ use Rattle.propagation.specs.Propagation.{Profiles}
 use Rattle.propagation.specs.Steps.{Room}
 use Rattle.working_outcome.specs.declared.Working.{Working}
 use Rattle.working_outcome.specs.Answer.{refusedWith}
-use Rattle.working.specs.Working.{decisionFor, Called, called, byOutcome, byDecision, decided-outcome}
+use Rattle.working.specs.Working.{acceptOf, decisionFor, Called, called, byOutcome, byDecision, decided-outcome}
 use Rattle.working.specs.Decided.{Decided, decided-accurate}
 use Rattle.working.specs.Ways.{acceptFor, call-passed, call-accepted, call-refused}
 use Rattle.page.specs.Page.{pageRoom}
 use Rattle.sheet_page.specs.SheetPage.{workedPage}
+use Rattle.sheet_page.specs.Pages.{worked-long}
 use Rattle.sheet.specs.Sheet.{SheetCalled, sheetCalled, printed, sheetBy, sheetCallOf, Sheets}
-use Rattle.sheet.specs.Sized.{sheet-long}
+use Rattle.sheet.specs.Sized.{sheet-sized}
 use Rattle.sheet.specs.Laws.{by-worked}
 
 -- ---- filling what is decided to work
@@ -41,7 +43,7 @@ sheet-filled {s} {x} {d} {p} h number four {w} {p′} e page room {page′} v =
     let text = workedPage number (s .cycle) w (p′ .output) in
     let works : decisionFor s .outcome ≡ Worked x = rw (h .is) at (h .works) in
     let long : length text ≡ pageRoom =
-    ap (λ (c : Called). length (workedPage number (s .cycle) (c .answer) (c .after .output))) e ∙ sheet-long s (h .ranges) x works p number four in
+    ap (λ (c : Called). length (workedPage number (s .cycle) (c .answer) (c .after .output))) e ∙ worked-long _ (sheet-sized s (h .ranges) x works p number four) in
     let z : 0 + length text ≡ pageRoom = omega arith in
     let written : page′ ≡ text ++ drop pageRoom page = rw z at (wrote-fits v (omega arith) .0) in
     ap (λ (b : List ℕ). sheetCalled w p′ b) written ∙ ap (λ (c : Called). printed number (s .cycle) c page) e
@@ -68,10 +70,14 @@ module _ (number : ℕ) (s : Segment) (p : Profiles) (page : List ℕ) {d : Deci
 
 -- ---- what the record decides
 
-module _ (l : List ℕ) (p : Profiles) (page : List ℕ) where
-  pub record-passed : (s : Segment) → checkedOf (acceptFor l p) ≡ checked.Valid s → Ranges s × Room (s .cycle) p
-  record-passed s e = let a = call-passed l p s e in (a .0 .ranges, a .1)
+pub record-passed : (l : List ℕ) (p : Profiles) (s : Segment) → checkedOf (acceptFor l p) ≡ checked.Valid s → Ranges s × Room (s .cycle) p
+record-passed l p s e = let a = call-passed l p s e in (a .0 .ranges, a .1)
 
+-- an accepted record has its number's bytes, whatever the lengths of the profiles
+pub number-within : (l : List ℕ) (o f g : ℕ) (s : Segment) → checkedOf (acceptOf l o f g) ≡ checked.Valid s → numberAt + 4 ≤ length l
+number-within l o f g s e = omega (arith, accept-passed l _ s (checked-valid (acceptOf l o f g) s e) .0 .sized)
+
+module _ (l : List ℕ) (p : Profiles) (page : List ℕ) where
   -- accepted: worked, or refused for its volumes or the page buffer
   pub record-accepted : (s : Segment) → checkedOf (acceptFor l p) ≡ checked.Valid s → {number : ℕ} → number ≡ word4 l numberAt →
       (w : Working) (p′ : Profiles) (page′ : List ℕ) →
@@ -82,7 +88,7 @@ module _ (l : List ℕ) (p : Profiles) (page : List ℕ) where
       let d = decisionFor s in
       let beneath : (x : Float) → w .outcome ≡ Worked x → called w p′ ≡ byDecision s d p =
       λ x o. ap (λ (c : SheetCalled). called (c .answer) (c .after))
-          (by-worked number (s .cycle) (byDecision s d p) p page x o (d .outcome) (decided-outcome s d p) q) in
+      (by-worked number (s .cycle) (byDecision s d p) p page x o (d .outcome) (decided-outcome s d p) q) in
       record {
         is = q ∙ rw (en, call-accepted l p s e, decided-outcome s d p, ← (a .is));
         accurate = λ x o. subst (λ (u : Segment). Accurate u (w .pairs .rows) p′) (a .is) (decided-accurate s (a .ranges) p w p′ (beneath x o) x o);

@@ -1,6 +1,5 @@
 -- What the call says where it works: the working beneath it, as called, and the page; and what the page then looks like.
-use Prim.Native.Nat.{ℕ, _+_, _*_, _^_, _<_}
-use native.Mathlib.Omega.{arith}
+use Prim.Native.Nat.{ℕ, _<_}
 use mathlib.Core.Bool.{Bool, true, false, cond}
 use mathlib.Core.Path.{_≡_, refl, ap, sym, subst, _∙_}
 use mathlib.Core.List.{List, _++_}
@@ -17,14 +16,13 @@ use Rattle.balance_decision.specs.declared.Outcome.the-variants.{Worked, Refuse
 use Rattle.propagation.specs.Propagation.{Profiles, pairFlow}
 use Rattle.working_outcome.specs.declared.Working.{Working}
 use Rattle.working.specs.Working.{Called, called, callOf, Works}
-use Rattle.working.specs.Ways.{WorkedBy, call-worked}
 use Rattle.page.specs.Page.{pageRoom}
 use Rattle.page.specs.Laid.{Laid, page-laid}
 use Rattle.sheet_page.specs.SheetPage.{workedPage}
 use Rattle.sheet_page.specs.Fits.{SheetFits, sheet-fits, sheet-count}
 use Rattle.sheet_page.specs.Told.{Told, sheet-told}
 use Rattle.sheet.specs.Sheet.{SheetCalled, sheetCalled, printed, noRoom, sheetBy, sheetCallOf, Sheets}
-use Rattle.sheet.specs.Sized.{sheet-sized}
+use Rattle.sheet.specs.Sized.{called-sized}
 
 -- ---- a call that works
 
@@ -63,16 +61,10 @@ module _ {l : List ℕ} {p : Profiles} {page : List ℕ} {r : Working} {p′ : P
       ∙ ap (λ (c : Called). workedPage (word4 l numberAt) (segmentOf l .cycle) (c .answer) (c .after .output) ++ drop pageRoom page) (sym same)
 
   module _ (bytes : (i : ℕ) → getD l i 0 < 256) where
-    number-small : word4 l numberAt < 2 ^ 32
-    unfolding word4
-    number-small = omega (arith, bytes 0, bytes 1, bytes 2, bytes 3)
-
     fits : SheetFits (word4 l numberAt) (segmentOf l .cycle) r (runAt (segmentOf l .cycle) 1 (p′ .output))
     fits =
-        let b = call-worked l p x (sym (ap (λ (c : Called). c .answer .outcome) same) ∙ worked) in
         subst (λ (c : Called). SheetFits (word4 l numberAt) (segmentOf l .cycle) (c .answer) (runAt (segmentOf l .cycle) 1 (c .after .output)))
-        (sym (same ∙ b .is))
-        (rw (← (b .accepted .is)) (sheet-sized (b .segment) (b .accepted .ranges) x (b .works) p (word4 l numberAt) number-small))
+        (sym same) (called-sized l bytes p x (sym (ap (λ (c : Called). c .answer .outcome) same) ∙ worked))
 
     -- sixty lines of 72 printed bytes and a newline
     pub sheet-laid : Laid page′

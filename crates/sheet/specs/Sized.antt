@@ -1,25 +1,26 @@
 -- The sheet of every record that is decided to work fits its page.
-use Prim.Native.Nat.{ℕ, _*_, _^_, _<_}
+use Prim.Native.Nat.{ℕ, _^_, _<_}
 use native.Mathlib.Omega.{arith}
 use mathlib.Core.Path.{_≡_}
 use mathlib.Core.List.{List}
 use lib.Ieee.{Float}
-use lib.ListN.{length, drop}
+use lib.ListN.{length, getD}
 use Rattle.lists.specs.Lists.{tab-length}
 use Rattle.runs.specs.Runs.{runAt}
+use Rattle.octets.specs.Octets.{word4}
 use Rattle.segment.specs.declared.Segment.{Segment}
+use Rattle.segment.specs.Layout.{numberAt}
+use Rattle.segment.specs.Segment.{segmentOf}
 use Rattle.ranges.specs.Ranges.{Ranges}
-use Rattle.arrivals.specs.Laws.{run-of}
 use Rattle.exit_figures.specs.declared.ExitFigures.{ExitFigures}
 use Rattle.balance_decision.specs.declared.Outcome.the-variants.{Worked}
-use Rattle.propagation.specs.Propagation.{Profiles, flowAt, filledOf}
+use Rattle.propagation.specs.Propagation.{Profiles, flowAt}
 use Rattle.working_outcome.specs.Answer.{runOf}
-use Rattle.working.specs.Working.{decisionFor, byOutcome}
+use Rattle.working_outcome.specs.Filled.{filled-run}
+use Rattle.working.specs.Working.{decisionFor, byOutcome, callOf}
+use Rattle.working.specs.Ways.{WorkedBy, call-worked}
 use Rattle.working.specs.Sizes.{ExitSized, worked-sized, run-sized}
-use Rattle.page.specs.Page.{pageRoom}
-use Rattle.page.specs.Laid.{page-length}
-use Rattle.sheet_page.specs.SheetPage.{workedPage}
-use Rattle.sheet_page.specs.Fits.{ExitFits, SheetFits, sheet-fits, sheet-count}
+use Rattle.sheet_page.specs.Fits.{ExitFits, SheetFits}
 
 exit-fits : (f : ExitFigures) → ExitSized f → ExitFits f
 exit-fits f h = record { total = omega (arith, h .total); green = omega (arith, h .total, h .green); permille = omega (arith, h .permille) }
@@ -27,11 +28,6 @@ exit-fits f h = record { total = omega (arith, h .total); green = omega (arith, 
 module _ (s : Segment) (r : Ranges s) (x : Float) (e : decisionFor s .outcome ≡ Worked x) (p : Profiles) where
   abbrev rows : List (List ℕ)
   rows = decisionFor s .pairs .rows
-
-  -- the output's second run, as the working leaves it
-  through-is : runAt (s .cycle) 1 (filledOf s rows p .output) ≡ runOf s rows 1
-  unfolding filledOf runOf
-  through-is = run-of (s .cycle) (flowAt s rows) (drop (4 * s .cycle) (p .output)) 1 (omega arith)
 
   through-length : length (runOf s rows 1) ≡ s .cycle
   unfolding runOf
@@ -42,7 +38,7 @@ module _ (s : Segment) (r : Ranges s) (x : Float) (e : decisionFor s .outcome �
       SheetFits number (s .cycle) (c .answer) (runAt (s .cycle) 1 (c .after .output))
   sheet-sized number four =
       let w = worked-sized s r x e in
-      rw through-is
+      rw (filled-run s rows p 1 (omega arith))
       (record {
         ten = omega arith;
         three = omega (arith, r .cycle);
@@ -57,7 +53,16 @@ module _ (s : Segment) (r : Ranges s) (x : Float) (e : decisionFor s .outcome �
         steps = omega (arith, through-length, r .cycle);
       })
 
-  pub sheet-long : (number : ℕ) → number < 2 ^ 32 → let c = byOutcome (Worked x) s (decisionFor s) p in
-      length (workedPage number (s .cycle) (c .answer) (c .after .output)) ≡ pageRoom
-  unfolding workedPage
-  sheet-long number four = let h = sheet-sized number four in page-length (sheet-fits h) (sheet-count h)
+-- ---- of a call that works, on bytes
+
+module _ (l : List ℕ) (bytes : (i : ℕ) → getD l i 0 < 256) where
+  pub number-small : word4 l numberAt < 2 ^ 32
+  unfolding word4
+  number-small = omega (arith, bytes 0, bytes 1, bytes 2, bytes 3)
+
+  pub called-sized : (p : Profiles) (x : Float) → callOf l p .answer .outcome ≡ Worked x →
+      SheetFits (word4 l numberAt) (segmentOf l .cycle) (callOf l p .answer) (runAt (segmentOf l .cycle) 1 (callOf l p .after .output))
+  called-sized p x e =
+      let b = call-worked l p x e in
+      let s = b .segment in
+      rw (b .is, ← (b .accepted .is)) (sheet-sized s (b .accepted .ranges) x (b .works) p (word4 l numberAt) number-small)

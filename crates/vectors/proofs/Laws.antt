@@ -12,29 +12,29 @@ use lib.Seq.{drop-cons, take-suc-set, take-all}
 use borrow.Author.Tests.{lt-ltb, le-ltb}
 use Rattle.octets.specs.Octets.{word4}
 use Rattle.lists.specs.Lists.{tab}
-use Rattle.vectors.specs.Vectors.{pattern, profileDiffers, wordsDiffer}
+use Rattle.vectors.specs.Vectors.{profileDiffers, wordsDiffer}
 
-pub record Filling (first : ℕ) (run₀ run : List ℕ) (i : ℕ) : Type 0 where
+-- the first i places hold what they are to hold
+pub record Filling (f : ℕ → ℕ) (run₀ run : List ℕ) (i : ℕ) : Type 0 where
   pub within : i ≤ length run₀
   pub long : length run ≡ length run₀
-  pub same : pattern first (length run₀) ≡ take i run ++ tab (λ k. first + k) i (length run₀ - i)
+  pub same : tab f 0 (length run₀) ≡ take i run ++ tab f i (length run₀ - i)
 
-pub filling-start : (first : ℕ) (run : List ℕ) → Filling first run run 0
-unfolding pattern
-filling-start first run = record { within = omega arith; long = refl; same = rw sub-zero }
+pub filling-start : (f : ℕ → ℕ) (run : List ℕ) → Filling f run run 0
+filling-start f run = record { within = omega arith; long = refl; same = rw sub-zero }
 
-module _ {first : ℕ} {run₀ run : List ℕ} {i : ℕ} (r : Filling first run₀ run i) where
-  pub filling-turn : i < length run₀ → Filling first run₀ (set run i (first + i)) (i + 1)
+module _ {f : ℕ → ℕ} {run₀ run : List ℕ} {i : ℕ} (r : Filling f run₀ run i) where
+  pub filling-turn : i < length run₀ → Filling f run₀ (set run i (f i)) (i + 1)
   unfolding tab
   filling-turn more =
       let e : length run₀ - i ≡ suc (length run₀ - suc i) = omega arith in
       record {
         within = omega arith;
         long = simp length-set (r .long);
-        same = r .same ∙ rw (add-one, take-suc-set run i (first + i) (omega (arith, r .long)), e, append-assoc);
+        same = r .same ∙ rw (add-one, take-suc-set run i (f i) (omega (arith, r .long)), e, append-assoc);
       }
 
-  pub filling-done : length run₀ ≤ i → run ≡ pattern first (length run₀)
+  pub filling-done : length run₀ ≤ i → run ≡ tab f 0 (length run₀)
   unfolding tab
   filling-done h =
       let e : length run₀ - i ≡ 0 = omega arith in

@@ -1,5 +1,5 @@
 -- What the test programs compare.
-use Prim.Native.Nat.{ℕ, _+_, _*_}
+use Prim.Native.Nat.{ℕ, _+_, _*_, _%_}
 use mathlib.Core.Bool.{Bool, false, _||_, not}
 use mathlib.Core.List.{List, [], _∷_, _++_}
 use lib.Dec.{eqb, ltb}
@@ -13,6 +13,10 @@ use Rattle.text.specs.Words.{bytes}
 -- a lent profile before a call: each place its own number
 unfoldable pub pattern : ℕ → ℕ → List ℕ
 pattern first n = tab (λ i. first + i) 0 n
+
+-- a lent buffer
+unfoldable pub bytePattern : ℕ → List ℕ
+bytePattern n = tab (λ i. i % 251) 0 n
 
 -- some number is not the four bytes that stand for it, from a place on
 unfoldable pub wordsDiffer : List ℕ → ℕ → List ℕ → Bool

@@ -5,7 +5,7 @@ ghost use lib.Ieee.{binary64, toBits};
 ghost use lib.ListN.{length, drop};
 ghost use Rattle.octets.specs.Octets.{word4};
 ghost use Rattle.buffer.specs.Buffer.{Wrote};
-ghost use Rattle.vectors.specs.Vectors.{closingLine, floatDiffers, pattern, profileDiffers, rowsDiffer, wordsDiffer};
+ghost use Rattle.vectors.specs.Vectors.{bytePattern, closingLine, floatDiffers, pattern, profileDiffers, rowsDiffer, wordsDiffer};
 use libc::STDIN_FILENO;
 use libc::STDOUT_FILENO;
 
@@ -80,6 +80,17 @@ pub fn fill_pattern(run: &mut [u32], first: u32)
     let mut i = 0;
     while i < run.len() {
         run[i] = first + (i as u32);
+        i += 1;
+    }
+}
+
+// A buffer as it is lent: place i holds i mod 251.
+pub fn fill_bytes(buffer: &mut [u8])
+    ensures { λ _. ⌜ now (buffer .exit) ≡ bytePattern (length (now (buffer .entry))) ⌝ }
+{
+    let mut i = 0;
+    while i < buffer.len() {
+        buffer[i] = (i % 251) as u8;
         i += 1;
     }
 }

@@ -8,7 +8,9 @@ use lib.Ieee.{Float}
 use lib.ListN.{length}
 use borrow.Author.Tests.{leb-true}
 use Rattle.refusal.specs.Refusal.{Or, false-true}
+use Rattle.runs.specs.Runs.{runAt}
 use Rattle.segment.specs.declared.Segment.{Segment}
+use Rattle.segment.specs.Segment.{segmentOf}
 use Rattle.validation.specs.declared.Checked.{Checked}
 use Rattle.validation.specs.declared.Checked.the-variants as checked
 use Rattle.validation.specs.Validation.{checkedOf}
@@ -21,7 +23,8 @@ use Rattle.balance_decision.specs.Meaning.{decision-number}
 use Rattle.metering.specs.Metering.{dischargeVolumes}
 use Rattle.propagation.specs.Propagation.{Profiles}
 use Rattle.propagation.specs.Steps.{Room}
-use Rattle.working_outcome.specs.Answer.{refusedWith}
+use Rattle.working_outcome.specs.Answer.{runOf, refusedWith}
+use Rattle.working_outcome.specs.Filled.{filled-run}
 use Rattle.working.specs.Working.{acceptOf, decisionFor, Called, called, byOutcome, byDecision, decided-outcome, callOf}
 use Rattle.working.specs.Decided.{fits-room, own-case}
 
@@ -61,6 +64,14 @@ call-worked l p x e = go (checkedOf (acceptFor l p)) refl
           works = works;
           is = is ∙ ap (λ (o : Outcome). byOutcome o s (decisionFor s) p) works;
         }
+
+-- the through run that such a call leaves, whatever it was lent
+pub call-through : (l : List ℕ) (p : Profiles) (x : Float) → callOf l p .answer .outcome ≡ Worked x →
+    runAt (segmentOf l .cycle) 1 (callOf l p .after .output) ≡ runOf (segmentOf l) (decisionFor (segmentOf l) .pairs .rows) 1
+call-through l p x e =
+    let b = call-worked l p x e in
+    let s = b .segment in
+    rw (b .is, ← (b .accepted .is)) (filled-run s (decisionFor s .pairs .rows) p 1 (omega arith))
 
 -- a refusal's number is one of those listed
 pub call-number : (l : List ℕ) (p : Profiles) → refusalOf (callOf l p .answer .outcome) ≤ 16

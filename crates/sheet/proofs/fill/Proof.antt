@@ -13,7 +13,7 @@ returns c =
     let f = output-back .before in
     let known : tie.After-slice-known4 = f .before .before .before .before in
     let start = known .before .before .before .before in
-    sheet-filled (start .pre .0) _ (start .fits .number) {p′ = profiles _ _ _} (f .fill .ensures) _ (start .pre .1) (at-page .worked-page .ensures)
+    sheet-filled (start .pre .0) _ (start .fits .number .fits) {p′ = profiles _ _ _} (f .fill .ensures) _ (start .pre .1) (at-page .worked-page .ensures)
 
 pub fill-spec : {M : Type 1} → statement M
 fill-spec =

@@ -1,24 +1,24 @@
 -- A record refused, or accepted and its sheet made: either way the call's answer, its profiles, its page and demand 3.
 use borrow.Author.Needs.{needs}
-use mathlib.Core.Path.{sym, _∙_}
+use mathlib.Core.Path.{_≡_, sym, _∙_}
 use Rattle.propagation.specs.Propagation.{profiles}
-use Rattle.sheet.proofs.Deciding.{record-passed, record-accepted, record-refused}
+use Rattle.sheet.proofs.Deciding.{record-passed, number-within, record-accepted, record-refused}
 use Rattle.sheet.proofs.sheet.Statement.{statement}
 use Rattle.sheet.proofs.sheet.Tie as tie
-
-abbrev number-of : tie.After-sheet-accepted-arg → tie.After-word4-at
-number-of c = c .before
 
 abbrev valid-of : tie.After-word4-at → tie.After-accepted2
 valid-of c = c .before .before
 
 word4-at-requires : tie.Need-word4-at-requires
-word4-at-requires c κs = ?
+word4-at-requires c κs =
+    let at-valid = c .before in
+    number-within _ _ _ _ _ (sym (at-valid .before .before .accept .ensures) ∙ at-valid .accepted2 .given .1)
 
 sheet-accepted-requires : tie.Need-sheet-accepted-requires
 sheet-accepted-requires c κs =
-    let at-valid = valid-of (number-of (c .before .before .before)) in
-    record-passed _ (profiles _ _ _) _ _ (sym (at-valid .before .before .accept .ensures) ∙ at-valid .accepted2 .given .1)
+    let number-read : tie.After-word4-at = c .before .before .before .before in
+    let at-valid = valid-of number-read in
+    record-passed _ (profiles _ _ _) _ (sym (at-valid .before .before .accept .ensures) ∙ at-valid .accepted2 .given .1)
 
 returns : tie.Need-returns
 returns c =
@@ -29,9 +29,9 @@ returns-2 : tie.Need-returns-2
 returns-2 c =
     let output-back : tie.After-output = c .before .before .before .before .before in
     let w = output-back .before .before .before in
-    let n = number-of (w .before .before .before .before) in
-    let at-valid = valid-of n in
-    record-accepted _ (profiles _ _ _) _ _ (sym (at-valid .before .before .accept .ensures) ∙ at-valid .accepted2 .given .1) (n .word4-at .ensures)
+    let number-read : tie.After-word4-at = w .before .before .before .before .before in
+    let at-valid = valid-of number-read in
+    record-accepted _ (profiles _ _ _) _ _ (sym (at-valid .before .before .accept .ensures) ∙ at-valid .accepted2 .given .1) (number-read .word4-at .ensures)
     _ (profiles _ _ _) _ (w .sheet-accepted .ensures)
 
 pub sheet-spec : {M : Type 1} → statement M

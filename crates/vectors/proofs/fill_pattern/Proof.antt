@@ -2,12 +2,13 @@
 use Prim.Native.Nat.{_-_}
 use lib.ListN.{length}
 use native.Mathlib.Omega.{arith}
+use Rattle.vectors.specs.Vectors.{pattern}
 use Rattle.vectors.proofs.Laws.{Filling, filling-start, filling-turn, filling-done}
 use Rattle.vectors.proofs.fill_pattern.Statement.{statement}
 use Rattle.vectors.proofs.fill_pattern.Tie as tie
 
 abbrev Inv-loop : tie.InvT-loop
-Inv-loop run₀ first i₀ run i = Filling first run₀ run i
+Inv-loop run₀ first i₀ run i = Filling (λ k. first + k) run₀ run i
 
 abbrev μ-loop : tie.MeasureT-loop
 μ-loop run₀ first i₀ run i = length run₀ - i
@@ -22,6 +23,7 @@ same-length : tie.Need-same-length Inv-loop μ-loop
 same-length c = c .before .loop .inv .long
 
 returns : tie.Need-returns Inv-loop μ-loop
+unfolding pattern
 returns c = filling-done (c .before .loop .inv) (omega arith)
 
 pub fill-pattern-spec : {M : Type 1} → statement M
