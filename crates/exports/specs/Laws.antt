@@ -105,17 +105,13 @@ sheet-call-worked : (l : List ℕ) (p : Profiles) (t : List ℕ) → let o = she
 unfolding sheetCallOf
 sheet-call-worked l p t = by-outcome (callOf l p .answer .outcome) refl
   where
-    number cycle : ℕ
-    number = word4 l numberAt
-    cycle = segmentOf l .cycle
-
     by-room : (b : Bool) (x : Float) → callOf l p .answer .outcome ≡ Worked x →
-        let o = cond b (printed number cycle (callOf l p) t) (noRoom p t) .answer .outcome in refusalOf o ≡ 0 → WorkedAt o
+        let o = cond b (printed (word4 l numberAt) (segmentOf l .cycle) (callOf l p) t) (noRoom p t) .answer .outcome in refusalOf o ≡ 0 → WorkedAt o
     by-room true x e z = record { sum = x; is = e }
     by-room false x e z = absurd (omega arith)
 
     by-outcome : (o : Outcome) → callOf l p .answer .outcome ≡ o →
-        let u = sheetBy o number cycle (callOf l p) p t .answer .outcome in refusalOf u ≡ 0 → WorkedAt u
+        let u = sheetBy o (word4 l numberAt) (segmentOf l .cycle) (callOf l p) p t .answer .outcome in refusalOf u ≡ 0 → WorkedAt u
     by-outcome (Worked x) e = by-room (leb pageRoom (length t)) x e
     by-outcome (Refused n) e = call-worked l p
     by-outcome (Unsettled x) e = call-worked l p

@@ -31,13 +31,18 @@ use Rattle.report.specs.Working.{same-text, longest-room}
 
 module _ (l : List ℕ) {p p′ : Profiles} {w : Working} (room : Room mostCycle p) (works : Works l p w p′) {cycle : ℕ} (es : cycle ≡ word2 l cycleAt) where
   -- what is printed of the call is printed of the record
-  pub worked-alone : (form : Form) {number : ℕ} → number ≡ word4 l 0 → {b : List ℕ} {at : ℕ} {b′ : List ℕ} {q : ℕ} →
+  worked-alone : (form : Form) {number : ℕ} → number ≡ word4 l 0 → {b : List ℕ} {at : ℕ} {b′ : List ℕ} {q : ℕ} →
       Wrote b at (textIn form number cycle (called w p′)) b′ q → Wrote b at (segmentText form l) b′ q
   unfolding segmentText segmentOf
   worked-alone form {number} en v =
       let same : textIn form number cycle (called w p′) ≡ textIn form (word4 l 0) (segmentOf l .cycle) (callOf l longest) =
       rw (en, es, works .is) (same-text form (word4 l 0) l p longest room longest-room) in
       rw same at v
+
+  -- by the form that was matched
+  pub worked-in : {form : Form} (f : Form) → form ≡ f → {number : ℕ} → number ≡ word4 l 0 → {b : List ℕ} {at : ℕ} {b′ : List ℕ} {q : ℕ} →
+      Wrote b at (textIn f number cycle (called w p′)) b′ q → Wrote b at (segmentText form l) b′ q
+  worked-in f e en v = rw e (worked-alone f en v)
 
   -- and where it has worked, the output holds its through run
   pub run-stands : length (p′ .output) ≡ length (p .output) → RunStands cycle w (p′ .output)
