@@ -3,8 +3,8 @@ use mathlib.Core.Path.{sym}
 use lib.Seq.{length-take-le}
 use Rattle.report.specs.Whole.{text-part}
 use borrow.Author.Needs.{needs}
-use Rattle.segment_report.proofs.write_answer.Statement.{statement}
-use Rattle.segment_report.proofs.write_answer.Tie as tie
+use Rattle.program.proofs.write_answer.Statement.{statement}
+use Rattle.program.proofs.write_answer.Tie as tie
 
 abbrev start : tie.After-answer → tie.Start
 start c = c .before .before .before .before
