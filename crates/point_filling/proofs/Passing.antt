@@ -2,15 +2,12 @@
 use Prim.Native.Nat.{ℕ, _+_, _-_, _*_, _≤_, _<_}
 use native.Mathlib.Omega.{arith}
 use native.Mathlib.Nat.{sub-zero}
-use mathlib.Core.Bool.{Bool, true, false}
-use mathlib.Core.Path.{_≡_, refl, sym, _∙_}
+use mathlib.Core.Path.{_≡_, sym, _∙_}
 use mathlib.Core.List.{List, _++_, append-assoc}
-use lib.Dec.{ltb}
-use lib.ListN.{length, take, drop, getD, replicate, length-append, List·getD-eq-default}
+use lib.ListN.{length, take, drop, getD, replicate, length-append}
 use lib.Seq.{take-at}
-use borrow.Author.Tests.{ltb-true, ltb-false}
 use Rattle.limits.specs.Limits.{mostRunning, stepBound}
-use Rattle.lists.specs.Lists.{tab, tab-length, tab-at, tab-constant}
+use Rattle.lists.specs.Lists.{tab, tab-length, tab-each-le, tab-constant}
 use Rattle.movements.specs.Movements.{flowUnits}
 use Rattle.signal.specs.Turn.{earlier}
 use Rattle.signal.specs.Landing.{landing-is, added, added-tab}
@@ -93,13 +90,7 @@ module _ {s : Segment} {b : ℕ} {r : ℕ → ℕ} {run : List ℕ} (h : Passing
   passing-length = rw (h .is) (tab-length r 1 (s .cycle))
 
   passing-le : (k : ℕ) → getD run k 0 ≤ b
-  passing-le k = go (ltb k (s .cycle)) refl
-    where
-      go : (t : Bool) → ltb k (s .cycle) ≡ t → getD run k 0 ≤ b
-      go true e = let l = ltb-true k (s .cycle) e in rw (h .is, tab-at r 1 (s .cycle) k l) (h .small (1 + k) (omega arith) (omega arith))
-      go false e =
-          let l = ltb-false k (s .cycle) e in
-          rw (List·getD-eq-default run 0 {n = k} (omega (arith, passing-length))) (omega arith)
+  passing-le = rw (h .is) (tab-each-le b r 1 (s .cycle) (λ step first last. h .small step first (omega arith)))
 
   pub passing-short : Ranges s → length run < stepBound
   passing-short ranges = omega (arith, passing-length, ranges .cycle)
