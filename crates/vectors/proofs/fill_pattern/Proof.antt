@@ -1,5 +1,5 @@
 -- The loop keeps Filling: the first i places hold the pattern; those left fall.
-use Prim.Native.Nat.{_-_}
+use Prim.Native.Nat.{_+_, _-_}
 use lib.ListN.{length}
 use native.Mathlib.Omega.{arith}
 use Rattle.vectors.specs.Vectors.{pattern}
