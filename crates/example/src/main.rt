@@ -130,6 +130,25 @@ fn work(record: &[u8]) {
     }
 }
 
+// The first ten lines of a page.
+fn show(page: &[u8; page::PAGE_ROOM]) {
+    io::write_all(STDOUT_FILENO, &page[0..730]);
+}
+
+fn print_sheet(record: &[u8]) {
+    let mut page = [0u8; page::PAGE_ROOM];
+    let mut output = [0u32; limits::OUTPUT_ROOM];
+    let mut first = [0u32; limits::CYCLE_ROOM];
+    let mut second = [0u32; limits::CYCLE_ROOM];
+    let w = sheet::sheet(record, &mut page, &mut output, &mut first, &mut second);
+    let outcome = w.outcome;
+    match outcome {
+        Outcome::Worked(_) => show(&page),
+        Outcome::Refused(n) => say(b"refused ", n as u64),
+        Outcome::Unsettled(_) => say(b"refused ", 15),
+    }
+}
+
 // 10 and 25 seconds from the upstream signal; places beyond the count are not looked at.
 fn two_points() -> Points {
     let mut at = [Point {
@@ -181,6 +200,7 @@ fn main() {
     file(&r);
     discharge_of(&r);
     work(&r);
+    print_sheet(&r);
     let b = busy();
     work_points(&b);
 }
