@@ -130,11 +130,11 @@ fn work(record: &[u8]) {
     }
 }
 
-// The first ten lines of a page.
-fn show(page: &[u8; page::PAGE_ROOM]) {
-    io::write_all(STDOUT_FILENO, &page[0..730]);
+fn show(lines: &[u8]) {
+    io::write_all(STDOUT_FILENO, lines);
 }
 
+// The first ten lines of a sheet.
 fn print_sheet(record: &[u8]) {
     let mut page = [0u8; page::PAGE_ROOM];
     let mut output = [0u32; limits::OUTPUT_ROOM];
@@ -143,7 +143,7 @@ fn print_sheet(record: &[u8]) {
     let w = sheet::sheet(record, &mut page, &mut output, &mut first, &mut second);
     let outcome = w.outcome;
     match outcome {
-        Outcome::Worked(_) => show(&page),
+        Outcome::Worked(_) => show(&page[0..730]),
         Outcome::Refused(n) => say(b"refused ", n as u64),
         Outcome::Unsettled(_) => say(b"refused ", 15),
     }
