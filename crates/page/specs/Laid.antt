@@ -12,7 +12,7 @@ use Rattle.runs.specs.Runs.{runAt, run-first, run-behind}
 use Rattle.text.specs.Text.{blanks}
 use Rattle.text.specs.Words.{newline}
 use Rattle.text.specs.Columns.{printedByte, printed, printed-append, printed-blanks}
-use Rattle.page.specs.Page.{lineWidth, pageLines, pageRoom, lineEnd, line, lines, blankLines, page}
+use Rattle.page.specs.Page.{lineWidth, pageLines, pageRoom, line, lines, page}
 use Rattle.page.specs.Laws.{lines-append}
 
 -- a line and its newline

@@ -1,7 +1,7 @@
 -- The ways of the call, from those of the working, over plain variables.
 use Prim.Native.Nat.{ℕ, _+_, _^_, _≤_, _<_}
 use native.Mathlib.Omega.{arith}
-use mathlib.Core.Path.{_≡_, refl, ap, sym, subst, _∙_}
+use mathlib.Core.Path.{_≡_, ap, subst, _∙_}
 use mathlib.Core.List.{List, _++_}
 use lib.Ieee.{Float}
 use lib.ListN.{length, drop}
@@ -43,7 +43,8 @@ sheet-filled {s} {x} {d} {p} h number four {w} {p′} e page room {page′} v =
     let text = workedPage number (s .cycle) w (p′ .output) in
     let works : decisionFor s .outcome ≡ Worked x = rw (h .is) at (h .works) in
     let long : length text ≡ pageRoom =
-    ap (λ (c : Called). length (workedPage number (s .cycle) (c .answer) (c .after .output))) e ∙ worked-long _ (sheet-sized s (h .ranges) x works p number four) in
+    ap (λ (c : Called). length (workedPage number (s .cycle) (c .answer) (c .after .output))) e
+    ∙ worked-long _ (sheet-sized s (h .ranges) x works p number four) in
     let z : 0 + length text ≡ pageRoom = omega arith in
     let written : page′ ≡ text ++ drop pageRoom page = rw z at (wrote-fits v (omega arith) .0) in
     ap (λ (b : List ℕ). sheetCalled w p′ b) written ∙ ap (λ (c : Called). printed number (s .cycle) c page) e

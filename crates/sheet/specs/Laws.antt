@@ -26,7 +26,8 @@ use Rattle.sheet.specs.Sized.{called-sized}
 
 -- ---- a call that works
 
-module _ (number cycle : ℕ) (c : Called) (p : Profiles) (page : List ℕ) {w : Working} {p′ : Profiles} {page′ : List ℕ} (x : Float) (worked : w .outcome ≡ Worked x) where
+module _ (number cycle : ℕ) (c : Called) (p : Profiles) (page : List ℕ) {w : Working} {p′ : Profiles} {page′ : List ℕ}
+    (x : Float) (worked : w .outcome ≡ Worked x) where
   -- the page buffer has room, or 21 would be told
   roomy : (b : Bool) → sheetCalled w p′ page′ ≡ cond b (printed number cycle c page) (noRoom p page) → sheetCalled w p′ page′ ≡ printed number cycle c page
   roomy true e = e

@@ -18,7 +18,7 @@ use Rattle.propagation.specs.Propagation.{Profiles, flowAt}
 use Rattle.working_outcome.specs.Answer.{runOf}
 use Rattle.working_outcome.specs.Filled.{filled-run}
 use Rattle.working.specs.Working.{decisionFor, byOutcome, callOf}
-use Rattle.working.specs.Ways.{WorkedBy, call-worked}
+use Rattle.working.specs.Ways.{call-worked}
 use Rattle.working.specs.Sizes.{ExitSized, worked-sized, run-sized}
 use Rattle.sheet_page.specs.Fits.{ExitFits, SheetFits}
 

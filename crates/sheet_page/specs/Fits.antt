@@ -1,6 +1,6 @@
 -- What keeps a sheet within its page: numbers of so many digits, four pair flows to a row, a run of no more steps than rows are left for.
-use Prim.Native.Nat.{ℕ, zero, suc, _+_, _*_, _/_, _^_, _≤_, _<_}
-use native.Mathlib.Nat.{div-le-self, div-lt-iff-lt-mul}
+use Prim.Native.Nat.{ℕ, zero, suc, _+_, _/_, _^_, _≤_, _<_}
+use native.Mathlib.Nat.{div-le-self}
 use native.Mathlib.Omega.{arith}
 use mathlib.Core.Bool.{true}
 use mathlib.Core.Path.{_≡_, refl, ap}
@@ -12,12 +12,12 @@ use Rattle.working_outcome.specs.declared.Working.{Working}
 use Rattle.text.specs.Text.{decimal, field, columns}
 use Rattle.text.specs.Digits.{field-within}
 use Rattle.text.specs.Columns.{Within, decimal-length, columns-length, printed, printed-append, field-printed, columns-printed}
-use Rattle.page.specs.Page.{pageLines, lineWidth}
+use Rattle.page.specs.Page.{pageLines}
 use Rattle.page.specs.Laid.{Fits, AllFit, none, one, fit-append}
 use Rattle.report_lines.specs.Lines.{recordLabel, cycleLabel, shiftLabel, roundsLabel, exitLabel, greenLabel, permilleLabel, refusedLabel}
 use Rattle.report_lines.specs.Lines.{letterL, letterT, letterR, recordWords, exitWords, refusedWords}
 use Rattle.sheet_page.specs.SheetPage.{pairWidth, pairUnit, flowWidth, flowUnit, rowSteps, rowsFor, pairWords}
-use Rattle.sheet_page.specs.SheetPage.{flowLines, exitLines, headLines, sheetLines}
+use Rattle.sheet_page.specs.SheetPage.{flowLines, headLines, sheetLines}
 
 pub record ExitFits (f : ExitFigures) : Type 0 where
   pub total : f .total < 10 ^ 11

@@ -3,7 +3,7 @@ use Prim.Native.Nat.{ℕ, zero, suc, _+_, _*_, _/_, _%_, _^_, _≤_, _<_}
 use native.Mathlib.Nat.{div-le-self, div-one}
 use native.Mathlib.Omega.{arith}
 use mathlib.Core.Path.{_≡_, refl, ap, sym, _∙_}
-use mathlib.Core.List.{List, [], _∷_, _++_}
+use mathlib.Core.List.{List, [], _++_}
 use lib.ListN.{length, take, drop, getD, length-take, length-drop}
 use lib.Seq.{drop-drop, getD-take, getD-drop, getD-append-add}
 use Rattle.runs.specs.Runs.{runAt}
@@ -15,7 +15,7 @@ use Rattle.page.specs.Page.{pageLines, lineEnd, line, page}
 use Rattle.page.specs.Laid.{lineRoom, page-line}
 use Rattle.sheet_page.specs.SheetPage.{pairWidth, pairUnit, flowWidth, flowUnit, rowSteps, rowsFor, pairWords, flowLines, headLines, sheetLines}
 use Rattle.sheet_page.specs.Fits.{SheetFits, pair-digits, flow-digits, pairs-within, flows-within, first-below}
-use Rattle.sheet_page.specs.Fits.{flow-lines-count, head-lines-count, sheet-fits, sheet-count}
+use Rattle.sheet_page.specs.Fits.{head-lines-count, sheet-fits, sheet-count}
 
 -- the columns of pair flow i, j: on the line of its entry, behind the record's line
 abbrev pub pairColumn : List ℕ → ℕ → ℕ → List ℕ

@@ -5,7 +5,7 @@ ghost use Rattle.buffer.specs.Buffer.{Wrote};
 ghost use Rattle.page.specs.Page.{line, lines};
 ghost use Rattle.report_lines.specs.Lines.{exitWords, recordWords};
 ghost use Rattle.text.specs.Text.{columns, mostBlanks};
-ghost use Rattle.sheet_page.specs.SheetPage.{exitLines, flowLines, flowUnit, flowWidth, headLines, pairLines, pairUnit, pairWidth};
+ghost use Rattle.sheet_page.specs.SheetPage.{exitLines, flowLines, headLines, pairLines, pairUnit, pairWidth};
 ghost use Rattle.sheet_page.specs.SheetPage.{RunStands, recordPage, refusedPage, rowsFor, workedPage};
 use balance_decision::Outcome;
 use exit_figures::ExitFigures;

@@ -1,6 +1,6 @@
 -- A record refused, or accepted and its sheet made: either way the call's answer, its profiles, its page and demand 3.
 use borrow.Author.Needs.{needs}
-use mathlib.Core.Path.{_≡_, sym, _∙_}
+use mathlib.Core.Path.{sym, _∙_}
 use Rattle.propagation.specs.Propagation.{profiles}
 use Rattle.sheet.proofs.Deciding.{record-passed, number-within, record-accepted, record-refused}
 use Rattle.sheet.proofs.sheet.Statement.{statement}

@@ -27,7 +27,8 @@ returns-4 c =
     let f = output-back .before .before .before in
     let roomy : tie.Else1 = f .before .before .before .before .before in
     let o : tie.After-outcome = roomy .before .before in
-    sheet-printed _ _ (profiles _ _ _) _ (o .before .before .decide .ensures) _ (o .outcome .given .1) (roomy .if1 .left) {p′ = profiles _ _ _} (f .fill .ensures)
+    sheet-printed _ _ (profiles _ _ _) _ (o .before .before .decide .ensures) _ (o .outcome .given .1) (roomy .if1 .left)
+    {p′ = profiles _ _ _} (f .fill .ensures)
 
 pub sheet-accepted-spec : {M : Type 1} → statement M
 sheet-accepted-spec =

@@ -39,7 +39,8 @@ loop-again : tie.Need-loop-again Inv-loop μ-loop
 loop-again c =
     let at-column = c .before .before in
     let t = in-loop at-column in
-    (omega (arith, t .loop-test .taken), appending-turn (t .before .loop .inv .1) (at-column .append-column .ensures) _ (columns-from _ _ _ _ (t .loop-test .taken)))
+    let next = columns-from _ _ _ _ (t .loop-test .taken) in
+    (omega (arith, t .loop-test .taken), appending-turn (t .before .loop .inv .1) (at-column .append-column .ensures) _ next)
 
 same-length : tie.Need-same-length Inv-loop μ-loop
 same-length c = c .before .loop .inv .1 .long
