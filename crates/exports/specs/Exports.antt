@@ -4,12 +4,15 @@ use mathlib.Core.Path.{_≡_}
 use mathlib.Core.List.{List}
 use lib.ListN.{length}
 use Rattle.refusal.specs.Refusal.{Or}
+use Rattle.runs.specs.Runs.{runAt}
 use Rattle.segment.specs.Segment.{segmentOf}
-use Rattle.propagation.specs.Propagation.{Profiles}
+use Rattle.propagation.specs.Propagation.{Profiles, pairFlow}
 use Rattle.accuracy.specs.Accuracy.{Accurate}
 use Rattle.working_outcome.specs.declared.Working.{Working}
 use Rattle.balance_decision.specs.Outcome.{refusalOf, lastSumOf}
 use Rattle.working.specs.Working.{callOf}
+use Rattle.page.specs.Laid.{Laid}
+use Rattle.sheet_page.specs.Told.{Told}
 use Rattle.sheet.specs.Sheet.{sheetCallOf}
 use Rattle.points.specs.declared.Points.{Points}
 use Rattle.point_flows.specs.PointAccuracy.{PointsAccurate}
@@ -62,12 +65,14 @@ pub record SegmentPointWorks (l : List ℕ) (ps : Points) (p : Profiles) (q : Li
   pub accurate : r .work .number ≡ 0 → Accurate (segmentOf l) (r .work .pairs .rows) p′
   pub points : r .work .number ≡ 0 → PointsAccurate (segmentOf l) ps q′
 
--- the sheet as called: its answer in numbers, all three profiles, the page buffer, and demand 3 of all that it accepts
+-- the sheet as called: its answer in numbers, all three profiles, the page buffer, and demand 3 and the page's form of all that it accepts
 pub record SegmentSheets (l : List ℕ) (p : Profiles) (t : List ℕ) (r : WorkAnswer) (p′ : Profiles) (t′ : List ℕ) : Type 0 where
   pub answer : r ≡ workAnswer (sheetCallOf l p t .answer)
   pub after : p′ ≡ sheetCallOf l p t .after
   pub page : t′ ≡ sheetCallOf l p t .page
   pub accurate : r .number ≡ 0 → Accurate (segmentOf l) (r .pairs .rows) p′
+  pub laid : r .number ≡ 0 → Laid t′
+  pub told : r .number ≡ 0 → Told (pairFlow (r .pairs .rows)) (runAt (segmentOf l .cycle) 1 (p′ .output)) t′
 
 abbrev pub volumesAnswer : Discharged → VolumesAnswer
 volumesAnswer (RefusedVolumes n) = record { number = n; left = 0; through = 0; right = 0 }

@@ -127,6 +127,8 @@ segment-sheets l p t w p′ t′ r sheets e =
       after = ap (λ (c : SheetCalled). c .after) (sheets .is);
       page = ap (λ (c : SheetCalled). c .page) (sheets .is);
       accurate = λ z. let a = worked z in rw e (sheets .accurate (a .sum) (a .is));
+      laid = λ z. let a = worked z in sheets .laid (a .sum) (a .is);
+      told = λ z. let a = worked z in rw e (sheets .told (a .sum) (a .is));
     }
 
 -- the discharge call's, in numbers

@@ -4,7 +4,7 @@ use native.Mathlib.Omega.{arith}
 use mathlib.Core.Path.{_≡_, ap, subst, _∙_}
 use mathlib.Core.List.{List, _++_}
 use lib.Ieee.{Float}
-use lib.ListN.{length, drop}
+use lib.ListN.{length, drop, getD}
 use borrow.Author.Tests.{le-leb, lt-leb}
 use Rattle.refusal.specs.Refusal.{false-true}
 use Rattle.octets.specs.Octets.{word4}
@@ -31,7 +31,7 @@ use Rattle.sheet_page.specs.SheetPage.{workedPage}
 use Rattle.sheet_page.specs.Pages.{worked-long}
 use Rattle.sheet.specs.Sheet.{SheetCalled, sheetCalled, printed, sheetBy, sheetCallOf, Sheets}
 use Rattle.sheet.specs.Sized.{sheet-sized}
-use Rattle.sheet.specs.Laws.{by-worked}
+use Rattle.sheet.specs.Laws.{beneath, page-laid-out, page-told}
 
 -- ---- filling what is decided to work
 
@@ -80,26 +80,30 @@ number-within l o f g s e = omega (arith, accept-passed l _ s (checked-valid (ac
 
 module _ (l : List ℕ) (p : Profiles) (page : List ℕ) where
   -- accepted: worked, or refused for its volumes or the page buffer
-  pub record-accepted : (s : Segment) → checkedOf (acceptFor l p) ≡ checked.Valid s → {number : ℕ} → number ≡ word4 l numberAt →
+  pub record-accepted : ((i : ℕ) → getD l i 0 < 256) → (s : Segment) → checkedOf (acceptFor l p) ≡ checked.Valid s → {number : ℕ} → number ≡ word4 l numberAt →
       (w : Working) (p′ : Profiles) (page′ : List ℕ) →
       sheetCalled w p′ page′ ≡ sheetBy (decisionFor s .outcome) number (s .cycle) (byDecision s (decisionFor s) p) p page → Sheets l p page w p′ page′
   unfolding sheetCallOf
-  record-accepted s e {number} en w p′ page′ q =
+  record-accepted bytes s e {number} en w p′ page′ q =
       let a = call-passed l p s e .0 in
       let d = decisionFor s in
-      let beneath : (x : Float) → w .outcome ≡ Worked x → called w p′ ≡ byDecision s d p =
-      λ x o. ap (λ (c : SheetCalled). called (c .answer) (c .after))
-      (by-worked number (s .cycle) (byDecision s d p) p page x o (d .outcome) (decided-outcome s d p) q) in
+      let is : sheetCalled w p′ page′ ≡ sheetCallOf l p page = q ∙ rw (en, call-accepted l p s e, decided-outcome s d p, ← (a .is)) in
+      let under : (x : Float) → w .outcome ≡ Worked x → called w p′ ≡ byDecision s d p = λ x o. beneath l p page is x o ∙ call-accepted l p s e in
       record {
-        is = q ∙ rw (en, call-accepted l p s e, decided-outcome s d p, ← (a .is));
-        accurate = λ x o. subst (λ (u : Segment). Accurate u (w .pairs .rows) p′) (a .is) (decided-accurate s (a .ranges) p w p′ (beneath x o) x o);
+        is = is;
+        accurate = λ x o. subst (λ (u : Segment). Accurate u (w .pairs .rows) p′) (a .is) (decided-accurate s (a .ranges) p w p′ (under x o) x o);
+        laid = λ x o. page-laid-out l p page is x o bytes;
+        told = λ x o. page-told l p page is x o bytes;
       }
 
   -- refused for its record or a profile's length
   pub record-refused : (n : ℕ) → checkedOf (acceptFor l p) ≡ checked.Refused n → (w : Working) → w ≡ refusedWith (Refused n) → Sheets l p page w p page
   unfolding sheetCallOf
   record-refused n e w ew =
+      let none : (x : Float) → w .outcome ≡ Worked x → ⊥ = λ x o. false-true (cc (ap (λ (v : Working). v .outcome) ew)) in
       record {
         is = rw (call-refused l p n e) (ap (λ (v : Working). sheetCalled v p page) ew);
-        accurate = λ x o. false-true (cc (ap (λ (v : Working). v .outcome) ew));
+        accurate = λ x o. absurd (none x o);
+        laid = λ x o. absurd (none x o);
+        told = λ x o. absurd (none x o);
       }

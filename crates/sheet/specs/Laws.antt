@@ -40,39 +40,46 @@ module _ (number cycle : ℕ) (c : Called) (p : Profiles) (page : List ℕ) {w :
   by-worked (Refused n) eo e = false-true (cc (ap (λ (r : SheetCalled). r .answer .outcome) e))
   by-worked (Unsettled sum) eo e = false-true (cc (ap (λ (r : SheetCalled). r .answer .outcome) e))
 
--- ---- of the call as called
+-- ---- a call that works, from its answer, profiles and buffer alone
 
-module _ {l : List ℕ} {p : Profiles} {page : List ℕ} {r : Working} {p′ : Profiles} {page′ : List ℕ} (h : Sheets l p page r p′ page′)
+module _ (l : List ℕ) (p : Profiles) (page : List ℕ) {r : Working} {p′ : Profiles} {page′ : List ℕ} (is : sheetCalled r p′ page′ ≡ sheetCallOf l p page)
     (x : Float) (worked : r .outcome ≡ Worked x) where
   prints : sheetCalled r p′ page′ ≡ printed (word4 l numberAt) (segmentOf l .cycle) (callOf l p) page
   unfolding sheetCallOf
-  prints = by-worked (word4 l numberAt) (segmentOf l .cycle) (callOf l p) p page x worked (callOf l p .answer .outcome) refl (h .is)
+  prints = by-worked (word4 l numberAt) (segmentOf l .cycle) (callOf l p) p page x worked (callOf l p .answer .outcome) refl is
 
-  same : called r p′ ≡ callOf l p
-  same = ap (λ (s : SheetCalled). called (s .answer) (s .after)) prints
-
-  -- it is the working without points
-  pub sheet-works : Works l p r p′
-  sheet-works = record { is = same; accurate = h .accurate }
+  -- the working beneath, as called
+  pub beneath : called r p′ ≡ callOf l p
+  beneath = ap (λ (s : SheetCalled). called (s .answer) (s .after)) prints
 
   -- the buffer holds the page of the record's number, the answer's figures and the output at exit, and what stood behind it
-  pub sheet-page : page′ ≡ workedPage (word4 l numberAt) (segmentOf l .cycle) r (p′ .output) ++ drop pageRoom page
-  sheet-page =
+  pub page-is : page′ ≡ workedPage (word4 l numberAt) (segmentOf l .cycle) r (p′ .output) ++ drop pageRoom page
+  page-is =
       ap (λ (s : SheetCalled). s .page) prints
-      ∙ ap (λ (c : Called). workedPage (word4 l numberAt) (segmentOf l .cycle) (c .answer) (c .after .output) ++ drop pageRoom page) (sym same)
+      ∙ ap (λ (c : Called). workedPage (word4 l numberAt) (segmentOf l .cycle) (c .answer) (c .after .output) ++ drop pageRoom page) (sym beneath)
 
   module _ (bytes : (i : ℕ) → getD l i 0 < 256) where
     fits : SheetFits (word4 l numberAt) (segmentOf l .cycle) r (runAt (segmentOf l .cycle) 1 (p′ .output))
     fits =
         subst (λ (c : Called). SheetFits (word4 l numberAt) (segmentOf l .cycle) (c .answer) (runAt (segmentOf l .cycle) 1 (c .after .output)))
-        (sym same) (called-sized l bytes p x (sym (ap (λ (c : Called). c .answer .outcome) same) ∙ worked))
+        (sym beneath) (called-sized l bytes p x (sym (ap (λ (c : Called). c .answer .outcome) beneath) ∙ worked))
 
-    -- sixty lines of 72 printed bytes and a newline
-    pub sheet-laid : Laid page′
+    pub page-laid-out : Laid page′
     unfolding workedPage
-    sheet-laid = rw sheet-page (page-laid (sheet-fits fits) (sheet-count fits) (drop pageRoom page))
+    page-laid-out = rw page-is (page-laid (sheet-fits fits) (sheet-count fits) (drop pageRoom page))
 
-    -- each pair flow of the answer and each step's thousands of the output at exit in columns of their own, which read back
-    pub sheet-columns : Told (pairFlow (r .pairs .rows)) (runAt (segmentOf l .cycle) 1 (p′ .output)) page′
+    pub page-told : Told (pairFlow (r .pairs .rows)) (runAt (segmentOf l .cycle) 1 (p′ .output)) page′
     unfolding workedPage
-    sheet-columns = rw sheet-page (sheet-told fits (drop pageRoom page))
+    page-told = rw page-is (sheet-told fits (drop pageRoom page))
+
+-- ---- of the call as called
+
+module _ {l : List ℕ} {p : Profiles} {page : List ℕ} {r : Working} {p′ : Profiles} {page′ : List ℕ} (h : Sheets l p page r p′ page′)
+    (x : Float) (worked : r .outcome ≡ Worked x) where
+  -- it is the working without points
+  pub sheet-works : Works l p r p′
+  sheet-works = record { is = beneath l p page (h .is) x worked; accurate = h .accurate }
+
+  -- and the page is of its figures
+  pub sheet-page : page′ ≡ workedPage (word4 l numberAt) (segmentOf l .cycle) r (p′ .output) ++ drop pageRoom page
+  sheet-page = page-is l p page (h .is) x worked

@@ -8,17 +8,20 @@ use lib.Dec.{leb}
 use lib.Ieee.{Float}
 use lib.ListN.{length, drop}
 use Rattle.octets.specs.Octets.{word4}
+use Rattle.runs.specs.Runs.{runAt}
 use Rattle.segment.specs.Layout.{numberAt}
 use Rattle.segment.specs.Segment.{segmentOf}
 use Rattle.balance_decision.specs.declared.Outcome.{Outcome}
 use Rattle.balance_decision.specs.declared.Outcome.the-variants.{Worked, Refused, Unsettled}
-use Rattle.propagation.specs.Propagation.{Profiles}
+use Rattle.propagation.specs.Propagation.{Profiles, pairFlow}
 use Rattle.accuracy.specs.Accuracy.{Accurate}
 use Rattle.working_outcome.specs.declared.Working.{Working}
 use Rattle.working_outcome.specs.Answer.{refusedWith}
 use Rattle.working.specs.Working.{Called, callOf}
 use Rattle.page.specs.Page.{pageRoom}
+use Rattle.page.specs.Laid.{Laid}
 use Rattle.sheet_page.specs.SheetPage.{workedPage}
+use Rattle.sheet_page.specs.Told.{Told}
 
 -- the answer, the three profiles and the page buffer afterwards
 pub record SheetCalled : Type 0 where
@@ -47,7 +50,10 @@ sheetBy (Unsettled sum) number cycle c p page = sheetCalled (c .answer) (c .afte
 unfoldable pub sheetCallOf : List ℕ → Profiles → List ℕ → SheetCalled
 sheetCallOf l p page = sheetBy (callOf l p .answer .outcome) (word4 l numberAt) (segmentOf l .cycle) (callOf l p) p page
 
--- the call as called: its answer, all three profiles and the page buffer, and demand 3 of all that it accepts
+-- the call as called: its answer, all three profiles and the page buffer; and of all that it accepts demand 3, that the page has sixty
+-- lines of 72 bytes and a newline, and that each pair flow and each step's thousands stand in columns of their own and read back
 pub record Sheets (l : List ℕ) (p : Profiles) (page : List ℕ) (r : Working) (p′ : Profiles) (page′ : List ℕ) : Type 0 where
   pub is : sheetCalled r p′ page′ ≡ sheetCallOf l p page
   pub accurate : (x : Float) → r .outcome ≡ Worked x → Accurate (segmentOf l) (r .pairs .rows) p′
+  pub laid : (x : Float) → r .outcome ≡ Worked x → Laid page′
+  pub told : (x : Float) → r .outcome ≡ Worked x → Told (pairFlow (r .pairs .rows)) (runAt (segmentOf l .cycle) 1 (p′ .output)) page′

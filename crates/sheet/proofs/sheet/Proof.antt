@@ -1,13 +1,25 @@
 -- A record refused, or accepted and its sheet made: either way the call's answer, its profiles, its page and demand 3.
 use borrow.Author.Needs.{needs}
+use Prim.Native.Nat.{ℕ, _<_}
 use mathlib.Core.Path.{sym, _∙_}
+use lib.ListN.{getD}
 use Rattle.propagation.specs.Propagation.{profiles}
 use Rattle.sheet.proofs.Deciding.{record-passed, number-within, record-accepted, record-refused}
 use Rattle.sheet.proofs.sheet.Statement.{statement}
 use Rattle.sheet.proofs.sheet.Tie as tie
 
+abbrev known : tie.After-accepted2 → tie.After-shared-slice-known
+known c = let at-accept = c .before .before in let lent : tie.After-slice-known2 = at-accept .before .before .before in lent .before .before
+
+abbrev start : tie.After-accepted2 → tie.Start
+start c = known c .before
+
 abbrev valid-of : tie.After-word4-at → tie.After-accepted2
 valid-of c = c .before .before
+
+-- each byte that is lent is one
+bytes-of : (c : tie.After-accepted2) → (i : ℕ) → getD (start c .args .bytes .now) i 0 < 256
+bytes-of c i = known c .shared-slice-known .given i .fits
 
 word4-at-requires : tie.Need-word4-at-requires
 word4-at-requires c κs =
@@ -31,7 +43,7 @@ returns-2 c =
     let w = output-back .before .before .before in
     let number-read : tie.After-word4-at = w .before .before .before .before .before in
     let at-valid = valid-of number-read in
-    record-accepted _ (profiles _ _ _) _ _ (sym (at-valid .before .before .accept .ensures) ∙ at-valid .accepted2 .given .1) (number-read .word4-at .ensures)
+    record-accepted _ (profiles _ _ _) _ (bytes-of at-valid) _ (sym (at-valid .before .before .accept .ensures) ∙ at-valid .accepted2 .given .1) (number-read .word4-at .ensures)
     _ (profiles _ _ _) _ (w .sheet-accepted .ensures)
 
 pub sheet-spec : {M : Type 1} → statement M
