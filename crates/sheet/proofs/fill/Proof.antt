@@ -9,8 +9,8 @@ returns : tie.Need-returns
 returns c =
     let at-page = c .before .before in
     let profiles-back : tie.After-slice-known7 = at-page .before .before .before in
-    let output-back = profiles-back .before .before .before .before .before in
-    let f = output-back .before in
+    let first-back : tie.After-first = profiles-back .before .before .before in
+    let f = first-back .before .before .before in
     let known : tie.After-slice-known4 = f .before .before .before .before in
     let start = known .before .before .before .before in
     sheet-filled (start .pre .0) _ (start .fits .number .fits) {p′ = profiles _ _ _} (f .fill .ensures) _ (start .pre .1) (at-page .worked-page .ensures)

@@ -39,12 +39,14 @@ returns c =
 
 returns-2 : tie.Need-returns-2
 returns-2 c =
-    let output-back : tie.After-output = c .before .before .before .before .before in
-    let w = output-back .before .before .before in
-    let number-read : tie.After-word4-at = w .before .before .before .before .before in
+    let first-back : tie.After-first = c .before .before .before in
+    let page-back : tie.After-page = first-back .before .before .before .before in
+    let w = page-back .before in
+    let lent = w .before .before .before .before in
+    let number-read : tie.After-word4-at = lent .before in
     let at-valid = valid-of number-read in
-    record-accepted _ (profiles _ _ _) _ (bytes-of at-valid) _ (sym (at-valid .before .before .accept .ensures) ∙ at-valid .accepted2 .given .1) (number-read .word4-at .ensures)
-    _ (profiles _ _ _) _ (w .sheet-accepted .ensures)
+    let accepted = sym (at-valid .before .before .accept .ensures) ∙ at-valid .accepted2 .given .1 in
+    record-accepted _ (profiles _ _ _) _ (bytes-of at-valid) _ accepted (number-read .word4-at .ensures) _ (profiles _ _ _) _ (w .sheet-accepted .ensures)
 
 pub sheet-spec : {M : Type 1} → statement M
 sheet-spec =

@@ -23,9 +23,11 @@ returns-3 c =
 
 returns-4 : tie.Need-returns-4
 returns-4 c =
-    let output-back : tie.After-output = c .before .before .before .before .before in
-    let f = output-back .before .before .before in
-    let roomy : tie.Else1 = f .before .before .before .before .before in
+    let first-back : tie.After-first = c .before .before .before in
+    let page-back : tie.After-page = first-back .before .before .before .before in
+    let f = page-back .before in
+    let lent = f .before .before .before .before in
+    let roomy : tie.Else1 = lent .before in
     let o : tie.After-outcome = roomy .before .before in
     sheet-printed _ _ (profiles _ _ _) _ (o .before .before .decide .ensures) _ (o .outcome .given .1) (roomy .if1 .left)
     {p′ = profiles _ _ _} (f .fill .ensures)

@@ -6,11 +6,15 @@ use Rattle.sheet_vectors.proofs.call_differs.Tie as tie
 
 same-length : tie.Need-same-length
 same-length c =
-    let known : tie.After-slice-known12 = c .before .before .before .before .before in
-    let page-back : tie.After-page2 = known .before .before .before .before .before .before .before in
+    let lent-result = c .before .before .before .before in
+    let second-back : tie.After-second2 = lent-result .before .before in
+    let output-back : tie.After-output2 = second-back .before .before .before .before in
+    let page-back : tie.After-page2 = output-back .before .before in
     let at-sheet = page-back .before in
-    let lent : tie.After-slice-known8 = at-sheet .before .before .before .before .before in
-    let lent-page : tie.After-page = lent .before .before .before .before .before .before .before in
+    let lent = at-sheet .before .before .before .before in
+    let second-lent : tie.After-second = lent .before .before in
+    let output-lent : tie.After-output = second-lent .before .before .before .before in
+    let lent-page : tie.After-page = output-lent .before .before in
     at-sheet .sheet .kept .1 .0 ∙ lent-page .before .lend .kept .0
 
 pub call-differs-spec : {M : Type 1} → statement M

@@ -7,7 +7,8 @@ use Rattle.text.proofs.append_blanks.Tie as tie
 returns : tie.Need-returns
 returns c =
     let at-put = c .before .before in
-    let start = at-put .before .before .before .before .before in
+    let known = at-put .before .before .before .before in
+    let start = known .before in
     rw (← (row-part _ (start .pre))) (at-put .put .ensures)
 
 pub append-blanks-spec : {M : Type 1} → statement M
