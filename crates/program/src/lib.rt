@@ -25,12 +25,16 @@ fn write_text(form: Form, input: &[u8], text: &[u8])
     io::write_all(STDOUT_FILENO, text);
 }
 
-// An answer that is asked to be the text's length, and so no refusal.
-pub fn write_answer(form: Form, input: &[u8], text: &[u8], answer: Answer)
+// An answer that is asked to be the text's length, and so no refusal; that length is handed back.
+pub fn write_answer(form: Form, input: &[u8], text: &[u8], answer: Answer) -> usize
     requires { ⌜ Text form (now input) (now text) answer ⌝ }
+    ensures { λ r. ⌜ r ≡ length (inputText form (now (input .entry))) ⌝ }
 {
     match answer {
-        Answer::Value(n) => write_text(form, input, &text[..n]),
-        Answer::Refused(_) => {}
+        Answer::Value(n) => {
+            write_text(form, input, &text[..n]);
+            n
+        }
+        Answer::Refused(_) => 0,
     }
 }
