@@ -1,6 +1,6 @@
 // Adding a record to an archive: the old archive and one record more are written to a second buffer.
 ghost use Rattle.std.specs.Prelude.{◌≡◌, length};
-ghost use Rattle.archive_format.specs.Archive.{Sized, titleFits, firstEdition};
+ghost use Rattle.archive_format.specs.Archive.{Sized, title_fits, first_edition};
 ghost use Rattle.archive_add.specs.Adds.{Adds};
 
 use archive_format::{Answer, Edition, FIRST_EDITION, RECORD_LIMIT, TITLE_LIMIT};
@@ -9,7 +9,7 @@ use refusal::first_failed;
 
 // A title that is not too long, of bytes from 32 to 126.
 fn title_fits(title: &[u8]) -> bool
-    ensures { result ≡ titleFits title.now }
+    ensures { result ≡ title_fits title.now }
 {
     let clean = archive_open::printable(title);
     (title.len() <= TITLE_LIMIT) & clean
@@ -51,7 +51,7 @@ fn add_in(e: Edition, s: &[u8], segment: &[u8], title: &[u8], out: &mut [u8]) ->
 
 // Writes the archive with one record more to the buffer and returns its length; a refusal writes nothing, and bytes beyond stay.
 pub fn add(archive: &[u8], segment: &[u8], title: &[u8], buffer: &mut [u8]) -> Answer
-    ensures { Adds firstEdition archive.now segment.now title.now buffer.old result buffer.new }
+    ensures { Adds first_edition archive.now segment.now title.now buffer.old result buffer.new }
 {
     add_in(FIRST_EDITION, archive, segment, title, buffer)
 }

@@ -11,12 +11,12 @@ use Rattle.archive_format.specs.declared.TitlePart.{TitlePart}
 use Rattle.archive_format.specs.declared.TitlePart.TheVariants.{Part, Refused as NoPart}
 
 -- the most records that an archive holds
-abbrev pub recordLimit : ℕ
-recordLimit = 512
+abbrev pub record_limit : ℕ
+record_limit = 512
 
 -- the most bytes of a title
-abbrev pub titleLimit : ℕ
-titleLimit = 40
+abbrev pub title_limit : ℕ
+title_limit = 40
 
 -- a record has room for its number, and two bytes hold the places of 512 of them with titles
 abbrev pub Sized : ℕ → Type 0
@@ -29,8 +29,8 @@ pub record Filed : Type 0 where
   pub bytes : List ℕ
   pub title : List ℕ
 
-abbrev pub recordNumber : Filed → ℕ
-recordNumber f = word4 f.bytes layout.number_at
+abbrev pub record_number : Filed → ℕ
+record_number f = word4 f.bytes layout.number_at
 
 -- records one after another: the bytes, the title's length, the title
 unfoldable pub body : List Filed → List ℕ
@@ -38,13 +38,13 @@ body [] = []
 body (f ∷ fs) = f.bytes ++ (length f.title ∷ (f.title ++ body fs))
 
 -- the place after a record that stands at p, and its title
-abbrev pub placeAfter : ℕ → ℕ → Filed → ℕ
-placeAfter size p f = p + size + 1 + length f.title
+abbrev pub place_after : ℕ → ℕ → Filed → ℕ
+place_after size p f = p + size + 1 + length f.title
 
 -- each record's place, where the first stands at p
 unfoldable pub places : ℕ → ℕ → List Filed → List ℕ
 places size p [] = []
-places size p (f ∷ fs) = bytes2 p ++ places size (placeAfter size p f) fs
+places size p (f ∷ fs) = bytes2 p ++ places size (place_after size p f) fs
 
 -- the trailer: the places, the count, the trailer's own place, the mark
 unfoldable pub encode : Edition → List Filed → List ℕ
@@ -60,8 +60,8 @@ printables [] = true
 printables (b ∷ bs) = printable b && printables bs
 
 -- a title that a record may be filed with
-abbrev pub titleFits : List ℕ → Bool
-titleFits t = leb (length t) titleLimit && printables t
+abbrev pub title_fits : List ℕ → Bool
+title_fits t = leb (length t) title_limit && printables t
 
 unfoldable pub titled : List Filed → Bool
 titled [] = true
@@ -70,12 +70,12 @@ titled (f ∷ fs) = printables f.title && titled fs
 -- each number above the one before, the first above p
 unfoldable pub rising : ℕ → List Filed → Bool
 rising p [] = true
-rising p (f ∷ fs) = ltb p (recordNumber f) && rising (recordNumber f) fs
+rising p (f ∷ fs) = ltb p (record_number f) && rising (record_number f) fs
 
 -- the last number; p where there is none
-unfoldable pub lastNumber : ℕ → List Filed → ℕ
-lastNumber p [] = p
-lastNumber p (f ∷ fs) = lastNumber (recordNumber f) fs
+unfoldable pub last_number : ℕ → List Filed → ℕ
+last_number p [] = p
+last_number p (f ∷ fs) = last_number (record_number f) fs
 
 -- ---- reading
 
@@ -83,33 +83,33 @@ lastNumber p (f ∷ fs) = lastNumber (recordNumber f) fs
 abbrev pub next_at : ℕ → List ℕ → ℕ → ℕ
 next_at size l at = at + size + 1 + get_or l (at + size) 0
 
-abbrev pub filedAt : ℕ → List ℕ → ℕ → Filed
-filedAt size l at = record { bytes = take size (drop at l); title = take (get_or l (at + size) 0) (drop (at + size + 1) l) }
+abbrev pub filed_at : ℕ → List ℕ → ℕ → Filed
+filed_at size l at = record { bytes = take size (drop at l); title = take (get_or l (at + size) 0) (drop (at + size + 1) l) }
 
 -- so many records, one after another from a place
-unfoldable pub filedFrom : ℕ → ℕ → List ℕ → ℕ → List Filed
-filedFrom size zero l at = []
-filedFrom size (suc k) l at = filedAt size l at ∷ filedFrom size k l (next_at size l at)
+unfoldable pub filed_from : ℕ → ℕ → List ℕ → ℕ → List Filed
+filed_from size zero l at = []
+filed_from size (suc k) l at = filed_at size l at ∷ filed_from size k l (next_at size l at)
 
 -- so many records run from a place to the trailer t, as the places from q on say, with no title over 40 bytes
 unfoldable pub runs : ℕ → ℕ → List ℕ → ℕ → ℕ → ℕ → Bool
 runs size zero l t at q = eqb at t
 runs size (suc k) l t at q =
-    (eqb (word2 l q) at && (leb (get_or l (at + size) 0) titleLimit && leb (next_at size l at) t)) && runs size k l t (next_at size l at) (q + 2)
+    (eqb (word2 l q) at && (leb (get_or l (at + size) 0) title_limit && leb (next_at size l at) t)) && runs size k l t (next_at size l at) (q + 2)
 
 -- each test over all records before the next test
-unfoldable pub decodeBody : ℕ → List ℕ → ℕ → ℕ → Or (List Filed)
-decodeBody size l count t =
+unfoldable pub decode_body : ℕ → List ℕ → ℕ → ℕ → Or (List Filed)
+decode_body size l count t =
     need 3 (runs size count l t 0 t)
-    (need 4 (titled (filedFrom size count l 0))
-    (need 5 (rising 0 (filedFrom size count l 0))
-    (ok (filedFrom size count l 0))))
+    (need 4 (titled (filed_from size count l 0))
+    (need 5 (rising 0 (filed_from size count l 0))
+    (ok (filed_from size count l 0))))
 
-abbrev pub countAt : List ℕ → ℕ
-countAt l = word2 l (length l - 6)
+abbrev pub count_at : List ℕ → ℕ
+count_at l = word2 l (length l - 6)
 
-abbrev pub trailerAt : List ℕ → ℕ
-trailerAt l = word2 l (length l - 4)
+abbrev pub trailer_at : List ℕ → ℕ
+trailer_at l = word2 l (length l - 4)
 
 abbrev pub marked : Edition → List ℕ → Bool
 marked e l = eqb (get_or l (length l - 2) 0) e.first && eqb (get_or l (length l - 1) 0) e.second
@@ -118,8 +118,8 @@ marked e l = eqb (get_or l (length l - 2) 0) e.first && eqb (get_or l (length l 
 unfoldable pub decode : Edition → List ℕ → Or (List Filed)
 decode e l =
     need 1 (leb 6 (length l) && marked e l)
-    (need 2 (leb (countAt l) recordLimit && eqb (trailerAt l + 2 * countAt l + 6) (length l))
-    (decodeBody e.size l (countAt l) (trailerAt l)))
+    (need 2 (leb (count_at l) record_limit && eqb (trailer_at l + 2 * count_at l + 6) (length l))
+    (decode_body e.size l (count_at l) (trailer_at l)))
 
 -- ---- the calls
 
@@ -130,27 +130,27 @@ count_of e l = and_then (decode e l) (λ fs. ok (length fs))
 unfoldable pub place_in : ℕ → ℕ → List Filed → ℕ → Or ℕ
 place_in size p [] i = refused 6
 place_in size p (f ∷ fs) zero = ok p
-place_in size p (f ∷ fs) (suc i) = place_in size (placeAfter size p f) fs i
+place_in size p (f ∷ fs) (suc i) = place_in size (place_after size p f) fs i
 
 unfoldable pub place_of : Edition → List ℕ → ℕ → Or ℕ
 place_of e l i = and_then (decode e l) (λ fs. place_in e.size 0 fs i)
 
 -- the place of the record with a number
-unfoldable pub findIn : ℕ → ℕ → List Filed → ℕ → Or ℕ
-findIn size p [] n = refused 6
-findIn size p (f ∷ fs) n = cond (eqb (recordNumber f) n) (ok p) (findIn size (placeAfter size p f) fs n)
+unfoldable pub find_in : ℕ → ℕ → List Filed → ℕ → Or ℕ
+find_in size p [] n = refused 6
+find_in size p (f ∷ fs) n = cond (eqb (record_number f) n) (ok p) (find_in size (place_after size p f) fs n)
 
-unfoldable pub findOf : Edition → List ℕ → ℕ → Or ℕ
-findOf e l n = and_then (decode e l) (λ fs. findIn e.size 0 fs n)
+unfoldable pub find_of : Edition → List ℕ → ℕ → Or ℕ
+find_of e l n = and_then (decode e l) (λ fs. find_in e.size 0 fs n)
 
 -- where the title of the record at a place stands, behind the record and its own length; and that length
-abbrev pub titlePartAt : ℕ → List ℕ → Or ℕ → TitlePart
-titlePartAt size l (refused n) = NoPart n
-titlePartAt size l (ok p) = Part (p + size + 1) (get_or l (p + size) 0)
+abbrev pub title_part_at : ℕ → List ℕ → Or ℕ → TitlePart
+title_part_at size l (refused n) = NoPart n
+title_part_at size l (ok p) = Part (p + size + 1) (get_or l (p + size) 0)
 
 -- of the record with a number
-unfoldable pub titlePartOf : Edition → List ℕ → ℕ → TitlePart
-titlePartOf e l n = titlePartAt e.size l (findOf e l n)
+unfoldable pub title_part_of : Edition → List ℕ → ℕ → TitlePart
+title_part_of e l n = title_part_at e.size l (find_of e l n)
 
 -- the bytes of an archive at a place and of a length; none where there is no place
 abbrev pub bytes_at : List ℕ → TitlePart → List ℕ
@@ -158,24 +158,24 @@ bytes_at l (NoPart n) = []
 bytes_at l (Part place size) = take size (drop place l)
 
 -- a title is the part of the archive at its place and of its length
-unfoldable pub titleOf : Edition → List ℕ → ℕ → List ℕ
-titleOf e l n = bytes_at l (titlePartOf e l n)
+unfoldable pub title_of : Edition → List ℕ → ℕ → List ℕ
+title_of e l n = bytes_at l (title_part_of e l n)
 
 abbrev pub single : List ℕ → List ℕ → List Filed
 single b t = record { bytes = b; title = t } ∷ []
 
 -- the bytes with one record more, for a second buffer of `room` bytes
-unfoldable pub addTo : Edition → List ℕ → List ℕ → ℕ → List Filed → Or (List ℕ)
-addTo e b t room fs =
+unfoldable pub add_to : Edition → List ℕ → List ℕ → ℕ → List Filed → Or (List ℕ)
+add_to e b t room fs =
     need 6 (eqb (length b) e.size)
-    (need 4 (titleFits t)
-    (need 5 (ltb (lastNumber 0 fs) (word4 b layout.number_at))
+    (need 4 (title_fits t)
+    (need 5 (ltb (last_number 0 fs) (word4 b layout.number_at))
     (need 17 (leb (length (encode e (fs ++ single b t))) room)
-    (need 18 (ltb (length fs) recordLimit)
+    (need 18 (ltb (length fs) record_limit)
     (ok (encode e (fs ++ single b t)))))))
 
-unfoldable pub addOf : Edition → List ℕ → List ℕ → List ℕ → ℕ → Or (List ℕ)
-addOf e l b t room = and_then (decode e l) (λ fs. addTo e b t room fs)
+unfoldable pub add_of : Edition → List ℕ → List ℕ → List ℕ → ℕ → Or (List ℕ)
+add_of e l b t room = and_then (decode e l) (λ fs. add_to e b t room fs)
 
 -- ---- the paper's number and value of each answer, and the second buffer afterwards
 
@@ -184,8 +184,8 @@ answer_of (refused n) = Refused n
 answer_of (ok n) = Value n
 
 -- adding answers the length of what it wrote
-abbrev pub newLength : Or (List ℕ) → Answer
-newLength x = answer_of (and_then x (λ new. ok (length new)))
+abbrev pub new_length : Or (List ℕ) → Answer
+new_length x = answer_of (and_then x (λ new. ok (length new)))
 
 -- a refusal writes nothing; bytes beyond the new archive stay
 abbrev pub overwrite : Or (List ℕ) → List ℕ → List ℕ
@@ -194,10 +194,10 @@ overwrite (ok new) out = new ++ drop (length new) out
 
 -- a call that writes bytes to a lent buffer, or refuses: its answer, and the buffer afterwards
 pub record Writes (x : Or (List ℕ)) (before : List ℕ) (r : Answer) (after : List ℕ) : Type 0 where
-  pub answer : r ≡ newLength x
+  pub answer : r ≡ new_length x
   pub buffer : after ≡ overwrite x before
 
 -- ---- the first edition: records of 68 bytes, mark "DR"
 
-abbrev pub firstEdition : Edition
-firstEdition = record { size = layout.size; first = 68; second = 82 }
+abbrev pub first_edition : Edition
+first_edition = record { size = layout.size; first = 68; second = 82 }

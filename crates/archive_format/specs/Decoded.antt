@@ -5,65 +5,65 @@ use Rattle.std.proofs.Math.Seq.{drop-length}
 use Rattle.refusal.specs.Refusal.{ok}
 use Rattle.octets.specs.Octets.{word2, bytes2}
 use Rattle.archive_format.specs.declared.Edition.{Edition}
-use Rattle.archive_format.specs.Archive.{recordLimit, titleLimit, Filed, body, places, encode, titled, rising}
-use Rattle.archive_format.specs.Archive.{next_at, filedFrom, runs, countAt, trailerAt, decode}
-use Rattle.archive_format.specs.Reading.{title-length, bytes-length, record-split, Ran, ran, Reads, reads}
+use Rattle.archive_format.specs.Archive.{record_limit, title_limit, Filed, body, places, encode, titled, rising}
+use Rattle.archive_format.specs.Archive.{next_at, filed_from, runs, count_at, trailer_at, decode}
+use Rattle.archive_format.specs.Reading.{title_length, bytes_length, record_split, Ran, ran, Reads, reads}
 use Rattle.archive_format.specs.Words.{Bytes, word_split}
 
 -- records of the size, with titles of 40 bytes at most
 abbrev pub Shaped : ℕ → List Filed → Type 0
 Shaped size [] = Unit {0}
-Shaped size (f ∷ fs) = (length f.bytes ≡ size) × (length f.title ≤ titleLimit) × Shaped size fs
+Shaped size (f ∷ fs) = (length f.bytes ≡ size) × (length f.title ≤ title_limit) × Shaped size fs
 
 -- a list that an archive of the edition can hold
 pub record Fit (e : Edition) (fs : List Filed) : Type 0 where
   pub shaped : Shaped e.size fs
   pub titles : titled fs ≡ true
   pub risen : rising 0 fs ≡ true
-  pub many : length fs ≤ recordLimit
+  pub many : length fs ≤ record_limit
 
 -- ---- an archive that runs is made of its records
 
-pub body-laid : (size k : ℕ) (l : List ℕ) (t at q : ℕ) → t ≤ length l → runs size k l t at q ≡ true
-    → drop at l ≡ body (filedFrom size k l at) ++ drop t l
-unfolding runs filedFrom body
-body-laid size zero l t at q h r = ap (λ (z : ℕ). drop z l) (eqb-true at t r)
-body-laid size (suc k) l t at q h r =
+pub body_laid : (size k : ℕ) (l : List ℕ) (t at q : ℕ) → t ≤ length l → runs size k l t at q ≡ true
+    → drop at l ≡ body (filed_from size k l at) ++ drop t l
+unfolding runs filed_from body
+body_laid size zero l t at q h r = ap (λ (z : ℕ). drop z l) (eqb-true at t r)
+body_laid size (suc k) l t at q h r =
     let m : Ran size k l t at q = ran r in
     let n : next_at size l at ≤ length l = omega arith in
-    record-split size l at n ∙ rw (body-laid size k l t (next_at size l at) (q + 2) h m.on) (sym (simp (append_assoc, title-length size l at n)))
+    record_split size l at n ∙ rw (body_laid size k l t (next_at size l at) (q + 2) h m.on) (sym (simp (append_assoc, title_length size l at n)))
 
-pub places-laid : (size k : ℕ) (l : List ℕ) (t at q : ℕ) → Bytes l → t ≤ length l → q + 2 * k ≤ length l → runs size k l t at q ≡ true
-    → drop q l ≡ places size at (filedFrom size k l at) ++ drop (q + 2 * k) l
-unfolding filedFrom places
-places-laid size zero l t at q hb h s r = let e : q ≡ q + 2 * zero = omega arith in ap (λ (z : ℕ). drop z l) e
-places-laid size (suc k) l t at q hb h s r =
+pub places_laid : (size k : ℕ) (l : List ℕ) (t at q : ℕ) → Bytes l → t ≤ length l → q + 2 * k ≤ length l → runs size k l t at q ≡ true
+    → drop q l ≡ places size at (filed_from size k l at) ++ drop (q + 2 * k) l
+unfolding filed_from places
+places_laid size zero l t at q hb h s r = let e : q ≡ q + 2 * zero = omega arith in ap (λ (z : ℕ). drop z l) e
+places_laid size (suc k) l t at q hb h s r =
     let m : Ran size k l t at q = ran r in
     let n : next_at size l at ≤ length l = omega arith in
     let e : q + 2 + 2 * k ≡ q + 2 * suc k = omega arith in
     word_split l q hb (omega arith)
     ∙ ap (λ (r : List ℕ). bytes2 (word2 l q) ++ r)
-    (places-laid size k l t (next_at size l at) (q + 2) hb h (omega arith) m.on
-    ∙ ap (λ (z : ℕ). places size (next_at size l at) (filedFrom size k l (next_at size l at)) ++ drop z l) e)
-    ∙ rw (m.placed, title-length size l at n)
+    (places_laid size k l t (next_at size l at) (q + 2) hb h (omega arith) m.on
+    ∙ ap (λ (z : ℕ). places size (next_at size l at) (filed_from size k l (next_at size l at)) ++ drop z l) e)
+    ∙ rw (m.placed, title_length size l at n)
 
-pub shaped-laid : (size k : ℕ) (l : List ℕ) (t at q : ℕ) → t ≤ length l → runs size k l t at q ≡ true → Shaped size (filedFrom size k l at)
-unfolding filedFrom
-shaped-laid size zero l t at q h r = tt
-shaped-laid size (suc k) l t at q h r =
+pub shaped_laid : (size k : ℕ) (l : List ℕ) (t at q : ℕ) → t ≤ length l → runs size k l t at q ≡ true → Shaped size (filed_from size k l at)
+unfolding filed_from
+shaped_laid size zero l t at q h r = tt
+shaped_laid size (suc k) l t at q h r =
     let m : Ran size k l t at q = ran r in
     let n : next_at size l at ≤ length l = omega arith in
-    (bytes-length size l at n, rw (title-length size l at n) m.short, shaped-laid size k l t (next_at size l at) (q + 2) h m.on)
+    (bytes_length size l at n, rw (title_length size l at n) m.short, shaped_laid size k l t (next_at size l at) (q + 2) h m.on)
 
 -- ---- every archive that reads is the encoding of its records
 
-pub decoded-is-encoding : (e : Edition) (l : List ℕ) (fs : List Filed) → Bytes l → decode e l ≡ ok fs → l ≡ encode e fs
+pub decoded_is_encoding : (e : Edition) (l : List ℕ) (fs : List Filed) → Bytes l → decode e l ≡ ok fs → l ≡ encode e fs
 unfolding encode
-decoded-is-encoding e l fs hb r =
+decoded_is_encoding e l fs hb r =
     let m : Reads e l fs = reads e l fs r in
-    let w : trailerAt l ≤ length l = omega (arith, m.sized) in
-    let w2 : trailerAt l + 2 * countAt l ≤ length l = omega (arith, m.sized) in
-    let six : trailerAt l + 2 * countAt l ≡ length l - 6 = omega (arith, m.sized) in
+    let w : trailer_at l ≤ length l = omega (arith, m.sized) in
+    let w2 : trailer_at l + 2 * count_at l ≤ length l = omega (arith, m.sized) in
+    let six : trailer_at l + 2 * count_at l ≡ length l - 6 = omega (arith, m.sized) in
     let four : length l - 6 + 2 ≡ length l - 4 = omega (arith, m.six) in
     let pair : length l - 4 + 2 ≡ length l - 2 = omega (arith, m.six) in
     let last : suc (length l - 2) ≡ length l - 1 = omega (arith, m.six) in
@@ -73,15 +73,15 @@ decoded-is-encoding e l fs hb r =
     let tail : drop (length l - 2) l ≡ e.first ∷ e.second ∷ [] =
     drop-cons l (length l - 2) 0 (omega (arith, m.six))
     ∙ rw (last, drop-cons l (length l - 1) 0 (omega (arith, m.six)), end, drop-length l, m.mark, m.mark') in
-    body-laid e.size (countAt l) l (trailerAt l) 0 (trailerAt l) w m.run
-    ∙ rw (places-laid e.size (countAt l) l (trailerAt l) 0 (trailerAt l) hb w w2 m.run, six, word_split l (length l - 6) hb six-in)
+    body_laid e.size (count_at l) l (trailer_at l) 0 (trailer_at l) w m.run
+    ∙ rw (places_laid e.size (count_at l) l (trailer_at l) 0 (trailer_at l) hb w w2 m.run, six, word_split l (length l - 6) hb six-in)
     (rw (four, word_split l (length l - 4) hb four-in, pair, tail, m.held) (rw (m.count, m.trailer)))
 
-pub decoded-is-fit : (e : Edition) (l : List ℕ) (fs : List Filed) → decode e l ≡ ok fs → Fit e fs
-decoded-is-fit e l fs r =
+pub decoded_is_fit : (e : Edition) (l : List ℕ) (fs : List Filed) → decode e l ≡ ok fs → Fit e fs
+decoded_is_fit e l fs r =
     let m : Reads e l fs = reads e l fs r in
     record {
-      shaped = rw m.held at (shaped-laid e.size (countAt l) l (trailerAt l) 0 (trailerAt l) (omega (arith, m.sized)) m.run);
+      shaped = rw m.held at (shaped_laid e.size (count_at l) l (trailer_at l) 0 (trailer_at l) (omega (arith, m.sized)) m.run);
       titles = m.titles;
       risen = m.risen;
       many = omega (arith, m.many, m.count);

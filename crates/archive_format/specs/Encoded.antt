@@ -5,18 +5,18 @@ use Rattle.std.proofs.lemmas.List.{get_or_at}
 use Rattle.refusal.specs.Refusal.{ok, need}
 use Rattle.octets.specs.Octets.{word2, bytes2}
 use Rattle.archive_format.specs.declared.Edition.{Edition}
-use Rattle.archive_format.specs.Archive.{titleLimit, Filed, body, places, encode, titled, rising, placeAfter}
-use Rattle.archive_format.specs.Archive.{next_at, filedAt, filedFrom, runs, decodeBody, countAt, trailerAt, decode}
+use Rattle.archive_format.specs.Archive.{title_limit, Filed, body, places, encode, titled, rising, place_after}
+use Rattle.archive_format.specs.Archive.{next_at, filed_at, filed_from, runs, decode_body, count_at, trailer_at, decode}
 use Rattle.archive_format.specs.Words.{word_of}
 use Rattle.archive_format.specs.Decoded.{Shaped, Fit}
 
 module _ (size : ℕ) (f : Filed) (l : List ℕ) (at : ℕ) (r : List ℕ) (hs : length f.bytes ≡ size)
     (h : drop at l ≡ f.bytes ++ (length f.title ∷ (f.title ++ r))) where
-  pub laid-length : get_or l (at + size) 0 ≡ length f.title
-  laid-length = sym (get_or-drop at l size 0) ∙ ap (λ (z : List ℕ). get_or z size 0) h ∙ get_or_at f.bytes (length f.title) (f.title ++ r) 0 size hs
+  pub laid_length : get_or l (at + size) 0 ≡ length f.title
+  laid_length = sym (get_or-drop at l size 0) ∙ ap (λ (z : List ℕ). get_or z size 0) h ∙ get_or_at f.bytes (length f.title) (f.title ++ r) 0 size hs
 
-  laid-title : drop (at + size + 1) l ≡ f.title ++ r
-  laid-title =
+  laid_title : drop (at + size + 1) l ≡ f.title ++ r
+  laid_title =
       sym (drop-drop 1 (at + size) l)
       ∙ ap (λ (z : List ℕ). drop 1 z)
       (sym (drop-drop size at l) ∙ ap (λ (z : List ℕ). drop size z) h ∙ drop_at f.bytes (length f.title ∷ (f.title ++ r)) size hs)
@@ -24,48 +24,48 @@ module _ (size : ℕ) (f : Filed) (l : List ℕ) (at : ℕ) (r : List ℕ) (hs :
   laid_next : drop (next_at size l at) l ≡ r
   laid_next =
       let n : ℕ = length f.title in
-      rw laid-length (sym (drop-drop n (at + size + 1) l) ∙ ap (λ (z : List ℕ). drop n z) laid-title ∙ drop_at f.title r n refl)
+      rw laid_length (sym (drop-drop n (at + size + 1) l) ∙ ap (λ (z : List ℕ). drop n z) laid_title ∙ drop_at f.title r n refl)
 
-  pub laid-record : filedAt size l at ≡ f
-  laid-record =
+  pub laid_record : filed_at size l at ≡ f
+  laid_record =
       let b : take size (drop at l) ≡ f.bytes = ap (λ (z : List ℕ). take size z) h ∙ take_at f.bytes (length f.title ∷ (f.title ++ r)) size hs in
       let t : take (get_or l (at + size) 0) (drop (at + size + 1) l) ≡ f.title =
-      rw (laid-length, laid-title) (take_at f.title r (length f.title) refl) in
+      rw (laid_length, laid_title) (take_at f.title r (length f.title) refl) in
       rw (b, t)
 
 pub record Runs (size : ℕ) (fs : List Filed) (l : List ℕ) (t at q : ℕ) : Type 0 where
   pub run : runs size (length fs) l t at q ≡ true
-  pub held : filedFrom size (length fs) l at ≡ fs
+  pub held : filed_from size (length fs) l at ≡ fs
 
-pub encoded-runs : (size : ℕ) (fs : List Filed) (l : List ℕ) (t at q : ℕ) (x y : List ℕ) → Shaped size fs
+pub encoded_runs : (size : ℕ) (fs : List Filed) (l : List ℕ) (t at q : ℕ) (x y : List ℕ) → Shaped size fs
     → drop at l ≡ body fs ++ x → drop q l ≡ places size at fs ++ y → at + length (body fs) ≡ t → Runs size fs l t at q
-unfolding body places runs filedFrom
-encoded-runs size [] l t at q x y s hb hp ht = record { run = eq-eqb at t (omega arith); held = refl }
-encoded-runs size (f ∷ fs) l t at q x y s hb hp ht =
+unfolding body places runs filed_from
+encoded_runs size [] l t at q x y s hb hp ht = record { run = eq-eqb at t (omega arith); held = refl }
+encoded_runs size (f ∷ fs) l t at q x y s hb hp ht =
     let h : drop at l ≡ f.bytes ++ (length f.title ∷ (f.title ++ (body fs ++ x))) = hb ∙ simp append_assoc in
-    let n : get_or l (at + size) 0 ≡ length f.title = laid-length size f l at (body fs ++ x) s.0 h in
+    let n : get_or l (at + size) 0 ≡ length f.title = laid_length size f l at (body fs ++ x) s.0 h in
     let len : at + (length f.bytes + suc (length f.title + length (body fs))) ≡ t = simp length-append at ht in
     let next : next_at size l at + length (body fs) ≡ t = omega (arith, s.0) in
-    let p : word2 l q ≡ at = word_of l q at (places size (placeAfter size at f) fs ++ y) hp in
+    let p : word2 l q ≡ at = word_of l q at (places size (place_after size at f) fs ++ y) hp in
     let q2 : drop (q + 2) l ≡ places size (next_at size l at) fs ++ y =
     sym (drop-drop 2 q l) ∙ ap (λ (z : List ℕ). drop 2 z) hp ∙ ap (λ (z : ℕ). places size (at + size + 1 + z) fs ++ y) (sym n) in
     let ih : Runs size fs l t (next_at size l at) (q + 2) =
-    encoded-runs size fs l t (next_at size l at) (q + 2) x y s.2 (laid_next size f l at (body fs ++ x) s.0 h) q2 next in
-    let short : get_or l (at + size) 0 ≤ titleLimit = omega (arith, s.1) in
+    encoded_runs size fs l t (next_at size l at) (q + 2) x y s.2 (laid_next size f l at (body fs ++ x) s.0 h) q2 next in
+    let short : get_or l (at + size) 0 ≤ title_limit = omega (arith, s.1) in
     let fits : next_at size l at ≤ t = omega arith in
     record {
       run = rw (eq-eqb _ _ p, le-leb _ _ short, le-leb _ _ fits) ih.run;
-      held = rw (laid-record size f l at (body fs ++ x) s.0 h, ih.held);
+      held = rw (laid_record size f l at (body fs ++ x) s.0 h, ih.held);
     }
 
-pub length-places : (size p : ℕ) (fs : List Filed) → length (places size p fs) ≡ 2 * length fs
+pub length_places : (size p : ℕ) (fs : List Filed) → length (places size p fs) ≡ 2 * length fs
 unfolding places
-length-places size p [] = refl
-length-places size p (f ∷ fs) = omega (arith, length-places size (placeAfter size p f) fs)
+length_places size p [] = refl
+length_places size p (f ∷ fs) = omega (arith, length_places size (place_after size p f) fs)
 
-pub length-encode : (e : Edition) (fs : List Filed) → length (encode e fs) ≡ length (body fs) + 2 * length fs + 6
+pub length_encode : (e : Edition) (fs : List Filed) → length (encode e fs) ≡ length (body fs) + 2 * length fs + 6
 unfolding encode
-length-encode e fs = simp length-append (omega (arith, length-places e.size 0 fs))
+length_encode e fs = simp length-append (omega (arith, length_places e.size 0 fs))
 
 abbrev ending : Edition → List Filed → List ℕ
 ending e fs = bytes2 (length fs) ++ (bytes2 (length (body fs)) ++ (e.first ∷ e.second ∷ []))
@@ -74,44 +74,44 @@ encoded : (e : Edition) (fs : List Filed) → drop 0 (encode e fs) ≡ body fs +
 unfolding encode
 encoded e fs = refl
 
-dropped-body : (e : Edition) (fs : List Filed) → drop (length (body fs)) (encode e fs) ≡ places e.size 0 fs ++ ending e fs
+dropped_body : (e : Edition) (fs : List Filed) → drop (length (body fs)) (encode e fs) ≡ places e.size 0 fs ++ ending e fs
 unfolding encode
-dropped-body e fs = drop_at (body fs) (places e.size 0 fs ++ ending e fs) (length (body fs)) refl
+dropped_body e fs = drop_at (body fs) (places e.size 0 fs ++ ending e fs) (length (body fs)) refl
 
-pub encoding-reads : (e : Edition) (fs : List Filed) → Fit e fs → decode e (encode e fs) ≡ ok fs
-unfolding decode decodeBody need
-encoding-reads e fs fit =
+pub encoding_reads : (e : Edition) (fs : List Filed) → Fit e fs → decode e (encode e fs) ≡ ok fs
+unfolding decode decode_body need
+encoding_reads e fs fit =
     let l : List ℕ = encode e fs in
     let t : ℕ = length (body fs) in
     let k : ℕ = length fs in
-    let n : length l ≡ t + 2 * k + 6 = length-encode e fs in
+    let n : length l ≡ t + 2 * k + 6 = length_encode e fs in
     let n6 : length l - 6 ≡ t + 2 * k = omega arith in
     let n4 : length l - 4 ≡ t + 2 * k + 2 = omega arith in
     let n2 : length l - 2 ≡ t + 2 * k + 4 = omega arith in
     let n1 : length l - 1 ≡ t + 2 * k + 4 + 1 = omega arith in
     let tail : List ℕ = ending e fs in
-    let at-t : drop t l ≡ places e.size 0 fs ++ tail = dropped-body e fs in
+    let at-t : drop t l ≡ places e.size 0 fs ++ tail = dropped_body e fs in
     let mark : List ℕ = e.first ∷ e.second ∷ [] in
     let at-6 : drop (t + 2 * k) l ≡ tail =
-    sym (drop-drop (2 * k) t l) ∙ ap (λ (z : List ℕ). drop (2 * k) z) at-t ∙ drop_at (places e.size 0 fs) tail (2 * k) (length-places e.size 0 fs) in
+    sym (drop-drop (2 * k) t l) ∙ ap (λ (z : List ℕ). drop (2 * k) z) at-t ∙ drop_at (places e.size 0 fs) tail (2 * k) (length_places e.size 0 fs) in
     let at-4 : drop (t + 2 * k + 2) l ≡ bytes2 t ++ mark = sym (drop-drop 2 (t + 2 * k) l) ∙ ap (λ (z : List ℕ). drop 2 z) at-6 in
     let at-2 : drop (t + 2 * k + 4) l ≡ mark = sym (drop-drop 4 (t + 2 * k) l) ∙ ap (λ (z : List ℕ). drop 4 z) at-6 in
-    let count : countAt l ≡ k = rw n6 (word_of l (t + 2 * k) k (bytes2 t ++ mark) at-6) in
-    let trailer : trailerAt l ≡ t = rw n4 (word_of l (t + 2 * k + 2) t mark at-4) in
+    let count : count_at l ≡ k = rw n6 (word_of l (t + 2 * k) k (bytes2 t ++ mark) at-6) in
+    let trailer : trailer_at l ≡ t = rw n4 (word_of l (t + 2 * k + 2) t mark at-4) in
     let first : get_or l (length l - 2) 0 ≡ e.first =
     rw (n2, ← add-zero (t + 2 * k + 4)) (sym (get_or-drop (t + 2 * k + 4) l 0 0) ∙ ap (λ (z : List ℕ). get_or z 0 0) at-2) in
     let second : get_or l (length l - 1) 0 ≡ e.second = rw n1 (sym (get_or-drop (t + 2 * k + 4) l 1 0) ∙ ap (λ (z : List ℕ). get_or z 1 0) at-2) in
     let ran : Runs e.size fs l t 0 t =
-    encoded-runs e.size fs l t 0 t (places e.size 0 fs ++ tail) tail fit.shaped (encoded e fs) at-t (omega arith) in
+    encoded_runs e.size fs l t 0 t (places e.size 0 fs ++ tail) tail fit.shaped (encoded e fs) at-t (omega arith) in
     let six : 6 ≤ length l = omega arith in
     let sized : t + 2 * k + 6 ≡ length l = sym n in
     rw (le-leb _ _ six, eq-eqb _ _ first, eq-eqb _ _ second, count, trailer, le-leb _ _ fit.many, eq-eqb _ _ sized)
     (rw (ran.run, ran.held, fit.titles, fit.risen))
 
-pub empty-reads : (e : Edition) → decode e (encode e []) ≡ ok []
+pub empty_reads : (e : Edition) → decode e (encode e []) ≡ ok []
 unfolding titled rising
-empty-reads e = encoding-reads e [] (record { shaped = tt; titles = refl; risen = refl; many = omega arith })
+empty_reads e = encoding_reads e [] (record { shaped = tt; titles = refl; risen = refl; many = omega arith })
 
 -- two different lists never have the same bytes
-pub encoding-differs : (e : Edition) (fs gs : List Filed) → Fit e fs → Fit e gs → encode e fs ≡ encode e gs → fs ≡ gs
-encoding-differs e fs gs a b same = cc (encoding-reads e fs a, encoding-reads e gs b)
+pub encoding_differs : (e : Edition) (fs gs : List Filed) → Fit e fs → Fit e gs → encode e fs ≡ encode e gs → fs ≡ gs
+encoding_differs e fs gs a b same = cc (encoding_reads e fs a, encoding_reads e gs b)

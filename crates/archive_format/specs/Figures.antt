@@ -1,24 +1,24 @@
 -- The paper's two figures of archives, as values that compute: the empty archive, and one untitled record added to it.
 use Rattle.std.specs.Prelude.{ℕ, List, [], ◌∷◌, length, drop, replicate}
 use Rattle.refusal.specs.Refusal.{Or, refused, ok}
-use Rattle.archive_format.specs.Archive.{encode, addOf, firstEdition}
+use Rattle.archive_format.specs.Archive.{encode, add_of, first_edition}
 
-unfoldable pub emptyArchive : List ℕ
-emptyArchive = encode firstEdition []
+unfoldable pub empty_archive : List ℕ
+empty_archive = encode first_edition []
 
 -- a record with the number 1
-abbrev pub firstRecord : List ℕ
-firstRecord = 1 ∷ replicate 67 0
+abbrev pub first_record : List ℕ
+first_record = 1 ∷ replicate 67 0
 
-unfoldable pub oneRecord : Or (List ℕ)
-oneRecord = addOf firstEdition emptyArchive firstRecord [] 77
+unfoldable pub one_record : Or (List ℕ)
+one_record = add_of first_edition empty_archive first_record [] 77
 
 abbrev pub answered : Or (List ℕ) → List ℕ
 answered (refused n) = []
 answered (ok new) = new
 
-abbrev pub oneLength : ℕ
-oneLength = length (answered oneRecord)
+abbrev pub one_length : ℕ
+one_length = length (answered one_record)
 
-abbrev pub oneTrailer : List ℕ
-oneTrailer = drop 69 (answered oneRecord)
+abbrev pub one_trailer : List ℕ
+one_trailer = drop 69 (answered one_record)

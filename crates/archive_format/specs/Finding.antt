@@ -1,192 +1,192 @@
 -- What finding means: the place found holds the record with the number, and its title is that record's.
 use Rattle.std.specs.Prelude.{ℕ, zero, suc, ◌+◌, ◌*◌, ◌≤◌, ◌<◌, ◌≡◌, refl, Bool, true, false, cond, List, [], ◌∷◌, ◌++◌, eqb, ltb, length, get_or}
 use Rattle.std.proofs.Common.{arith, ap, ◌∙◌, eqb-true, ne_eqb, ltb-true}
-use Rattle.refusal.specs.Refusal.{Or, refused, ok, and_then, both, false-true}
+use Rattle.refusal.specs.Refusal.{Or, refused, ok, and_then, both, false_true}
 use Rattle.octets.specs.Octets.{word2}
 use Rattle.archive_format.specs.declared.Edition.{Edition}
 use Rattle.archive_format.specs.declared.TitlePart.TheVariants.{Part}
-use Rattle.archive_format.specs.Archive.{Filed, recordNumber, body, rising, lastNumber, next_at}
-use Rattle.archive_format.specs.Archive.{filedAt, filedFrom, runs, countAt, trailerAt, decode, placeAfter}
-use Rattle.archive_format.specs.Archive.{place_in, findIn, findOf, titlePartAt, titlePartOf, titleOf}
-use Rattle.archive_format.specs.Reading.{title-length, Ran, ran, Reads, reads}
+use Rattle.archive_format.specs.Archive.{Filed, record_number, body, rising, last_number, next_at}
+use Rattle.archive_format.specs.Archive.{filed_at, filed_from, runs, count_at, trailer_at, decode, place_after}
+use Rattle.archive_format.specs.Archive.{place_in, find_in, find_of, title_part_at, title_part_of, title_of}
+use Rattle.archive_format.specs.Reading.{title_length, Ran, ran, Reads, reads}
 use Rattle.archive_format.specs.Decoded.{Shaped}
-use Rattle.archive_format.specs.Joined.{body-next}
+use Rattle.archive_format.specs.Joined.{body_next}
 
 -- the record with a number, in a list
 unfoldable pub lookup : List Filed → ℕ → Or Filed
 lookup [] n = refused 6
-lookup (f ∷ fs) n = cond (eqb (recordNumber f) n) (ok f) (lookup fs n)
+lookup (f ∷ fs) n = cond (eqb (record_number f) n) (ok f) (lookup fs n)
 
 -- ---- a search in records that run: both absent, or the place holds the record
 
 pub data Search (size : ℕ) (l : List ℕ) (t : ℕ) (x : Or ℕ) (y : Or Filed) : Type 0 where
   absent : x ≡ refused 6 → y ≡ refused 6 → Search size l t x y
-  present : (p : ℕ) → x ≡ ok p → y ≡ ok (filedAt size l p) → next_at size l p ≤ t → Search size l t x y
+  present : (p : ℕ) → x ≡ ok p → y ≡ ok (filed_at size l p) → next_at size l p ≤ t → Search size l t x y
 
-search-from : (size k : ℕ) (l : List ℕ) (t at q n : ℕ) → t ≤ length l → runs size k l t at q ≡ true
-    → Search size l t (findIn size at (filedFrom size k l at) n) (lookup (filedFrom size k l at) n)
-unfolding findIn filedFrom lookup
-search-from size zero l t at q n h r = absent refl refl
-search-from size (suc k) l t at q n h r =
+search_from : (size k : ℕ) (l : List ℕ) (t at q n : ℕ) → t ≤ length l → runs size k l t at q ≡ true
+    → Search size l t (find_in size at (filed_from size k l at) n) (lookup (filed_from size k l at) n)
+unfolding find_in filed_from lookup
+search_from size zero l t at q n h r = absent refl refl
+search_from size (suc k) l t at q n h r =
     let m : Ran size k l t at q = ran r in
     let w : next_at size l at ≤ length l = omega arith in
-    rw (title-length size l at w) (go (eqb (recordNumber (filedAt size l at)) n) m.within (search-from size k l t (next_at size l at) (q + 2) n h m.on))
+    rw (title_length size l at w) (go (eqb (record_number (filed_at size l at)) n) m.within (search_from size k l t (next_at size l at) (q + 2) n h m.on))
   where
     go : (b : Bool) {x : Or ℕ} {y : Or Filed} → next_at size l at ≤ t → Search size l t x y
-        → Search size l t (cond b (ok at) x) (cond b (ok (filedAt size l at)) y)
+        → Search size l t (cond b (ok at) x) (cond b (ok (filed_at size l at)) y)
     go true within ih = present at refl refl within
     go false within ih = ih
 
-pub searched : (e : Edition) (l : List ℕ) (fs : List Filed) (n : ℕ) → decode e l ≡ ok fs → Search e.size l (trailerAt l) (findOf e l n) (lookup fs n)
-unfolding findOf
+pub searched : (e : Edition) (l : List ℕ) (fs : List Filed) (n : ℕ) → decode e l ≡ ok fs → Search e.size l (trailer_at l) (find_of e l n) (lookup fs n)
+unfolding find_of
 searched e l fs n r =
     let m : Reads e l fs = reads e l fs r in
-    let w : trailerAt l ≤ length l = omega (arith, m.sized) in
-    rw r (rw m.held at (search-from e.size (countAt l) l (trailerAt l) 0 (trailerAt l) n w m.run))
+    let w : trailer_at l ≤ length l = omega (arith, m.sized) in
+    rw r (rw m.held at (search_from e.size (count_at l) l (trailer_at l) 0 (trailer_at l) n w m.run))
 
 -- the place found holds the record with the number
-pub find-is : (e : Edition) (l : List ℕ) (fs : List Filed) (n p : ℕ) → decode e l ≡ ok fs → findOf e l n ≡ ok p → lookup fs n ≡ ok (filedAt e.size l p)
-find-is e l fs n p r f = go (searched e l fs n r)
+pub find_is : (e : Edition) (l : List ℕ) (fs : List Filed) (n p : ℕ) → decode e l ≡ ok fs → find_of e l n ≡ ok p → lookup fs n ≡ ok (filed_at e.size l p)
+find_is e l fs n p r f = go (searched e l fs n r)
   where
-    go : Search e.size l (trailerAt l) (findOf e l n) (lookup fs n) → lookup fs n ≡ ok (filedAt e.size l p)
-    go (absent x y) = false-true (cc)
+    go : Search e.size l (trailer_at l) (find_of e l n) (lookup fs n) → lookup fs n ≡ ok (filed_at e.size l p)
+    go (absent x y) = false_true (cc)
     go (present o x y w) = let z : o ≡ p = cc in rw z at y
 
-pub absent-is : (e : Edition) (l : List ℕ) (fs : List Filed) (n m : ℕ) → decode e l ≡ ok fs → findOf e l n ≡ refused m → lookup fs n ≡ refused 6
-absent-is e l fs n m r f = go (searched e l fs n r)
+pub absent_is : (e : Edition) (l : List ℕ) (fs : List Filed) (n m : ℕ) → decode e l ≡ ok fs → find_of e l n ≡ refused m → lookup fs n ≡ refused 6
+absent_is e l fs n m r f = go (searched e l fs n r)
   where
-    go : Search e.size l (trailerAt l) (findOf e l n) (lookup fs n) → lookup fs n ≡ refused 6
+    go : Search e.size l (trailer_at l) (find_of e l n) (lookup fs n) → lookup fs n ≡ refused 6
     go (absent x y) = y
-    go (present o x y w) = false-true (cc)
+    go (present o x y w) = false_true (cc)
 
-pub find_absent : (e : Edition) (l : List ℕ) (fs : List Filed) (n m : ℕ) → decode e l ≡ ok fs → lookup fs n ≡ refused m → findOf e l n ≡ refused 6
+pub find_absent : (e : Edition) (l : List ℕ) (fs : List Filed) (n m : ℕ) → decode e l ≡ ok fs → lookup fs n ≡ refused m → find_of e l n ≡ refused 6
 find_absent e l fs n m r g = go (searched e l fs n r)
   where
-    go : Search e.size l (trailerAt l) (findOf e l n) (lookup fs n) → findOf e l n ≡ refused 6
+    go : Search e.size l (trailer_at l) (find_of e l n) (lookup fs n) → find_of e l n ≡ refused 6
     go (absent x y) = x
-    go (present o x y w) = false-true (cc)
+    go (present o x y w) = false_true (cc)
 
 -- whole, with its title, before the archive ends
-pub find-within : (e : Edition) (l : List ℕ) (n p : ℕ) → findOf e l n ≡ ok p → next_at e.size l p ≤ length l
-unfolding findOf
-find-within e l n p found = go (decode e l) refl found
+pub find_within : (e : Edition) (l : List ℕ) (n p : ℕ) → find_of e l n ≡ ok p → next_at e.size l p ≤ length l
+unfolding find_of
+find_within e l n p found = go (decode e l) refl found
   where
-    inside : (fs : List Filed) → Reads e l fs → Search e.size l (trailerAt l) (findOf e l n) (lookup fs n) → next_at e.size l p ≤ length l
-    inside fs m (absent x y) = false-true (cc found)
+    inside : (fs : List Filed) → Reads e l fs → Search e.size l (trailer_at l) (find_of e l n) (lookup fs n) → next_at e.size l p ≤ length l
+    inside fs m (absent x y) = false_true (cc found)
     inside fs m (present o x y w) = let z : o ≡ p = cc found in rw (← z) (omega (arith, m.sized))
 
-    go : (x : Or (List Filed)) → decode e l ≡ x → and_then x (λ fs. findIn e.size 0 fs n) ≡ ok p → next_at e.size l p ≤ length l
-    go (refused m) r f = false-true (cc)
+    go : (x : Or (List Filed)) → decode e l ≡ x → and_then x (λ fs. find_in e.size 0 fs n) ≡ ok p → next_at e.size l p ≤ length l
+    go (refused m) r f = false_true (cc)
     go (ok fs) r f = inside fs (reads e l fs r) (searched e l fs n r)
 
 -- a title's part lies in the archive
-pub part-within : (e : Edition) (l : List ℕ) (n place size : ℕ) → titlePartOf e l n ≡ Part place size → place + size ≤ length l
-unfolding titlePartOf
-part-within e l n place size = go (findOf e l n) refl
+pub part_within : (e : Edition) (l : List ℕ) (n place size : ℕ) → title_part_of e l n ≡ Part place size → place + size ≤ length l
+unfolding title_part_of
+part_within e l n place size = go (find_of e l n) refl
   where
-    go : (x : Or ℕ) → findOf e l n ≡ x → titlePartAt e.size l x ≡ Part place size → place + size ≤ length l
-    go (refused m) f t = false-true (cc)
+    go : (x : Or ℕ) → find_of e l n ≡ x → title_part_at e.size l x ≡ Part place size → place + size ≤ length l
+    go (refused m) f t = false_true (cc)
     go (ok p) f t =
         let at_place : p + e.size + 1 ≡ place = cc in
         let so-long : get_or l (p + e.size) 0 ≡ size = cc in
-        omega (arith, find-within e l n p f)
+        omega (arith, find_within e l n p f)
 
 -- the title handed back is that record's
-pub title-is : (e : Edition) (l : List ℕ) (n p : ℕ) → findOf e l n ≡ ok p → titleOf e l n ≡ (filedAt e.size l p).title
-unfolding titleOf titlePartOf
-title-is e l n p f = rw f
+pub title_is : (e : Edition) (l : List ℕ) (n p : ℕ) → find_of e l n ≡ ok p → title_of e l n ≡ (filed_at e.size l p).title
+unfolding title_of title_part_of
+title_is e l n p f = rw f
 
 -- a record found has the number looked for
-lookup-number : (fs : List Filed) (n : ℕ) (g : Filed) → lookup fs n ≡ ok g → recordNumber g ≡ n
+lookup_number : (fs : List Filed) (n : ℕ) (g : Filed) → lookup fs n ≡ ok g → record_number g ≡ n
 unfolding lookup
-lookup-number [] n g h = false-true (cc)
-lookup-number (f ∷ fs) n g h = go (eqb (recordNumber f) n) refl h (lookup-number fs n g)
+lookup_number [] n g h = false_true (cc)
+lookup_number (f ∷ fs) n g h = go (eqb (record_number f) n) refl h (lookup_number fs n g)
   where
-    go : (b : Bool) → eqb (recordNumber f) n ≡ b → cond b (ok f) (lookup fs n) ≡ ok g → (lookup fs n ≡ ok g → recordNumber g ≡ n) → recordNumber g ≡ n
+    go : (b : Bool) → eqb (record_number f) n ≡ b → cond b (ok f) (lookup fs n) ≡ ok g → (lookup fs n ≡ ok g → record_number g ≡ n) → record_number g ≡ n
     go true e h ih = let z : f ≡ g = cc in rw (← z) (eqb-true _ _ e)
     go false e h ih = ih h
 
-pub found_number : (e : Edition) (l : List ℕ) (fs : List Filed) (n p : ℕ) → decode e l ≡ ok fs → findOf e l n ≡ ok p → recordNumber (filedAt e.size l p) ≡ n
-found_number e l fs n p r f = lookup-number fs n _ (find-is e l fs n p r f)
+pub found_number : (e : Edition) (l : List ℕ) (fs : List Filed) (n p : ℕ) → decode e l ≡ ok fs → find_of e l n ≡ ok p → record_number (filed_at e.size l p) ≡ n
+found_number e l fs n p r f = lookup_number fs n _ (find_is e l fs n p r f)
 
 -- ---- a list with more records after it
 
-pub lookup-more : (fs gs : List Filed) (n : ℕ) (g : Filed) → lookup fs n ≡ ok g → lookup (fs ++ gs) n ≡ ok g
+pub lookup_more : (fs gs : List Filed) (n : ℕ) (g : Filed) → lookup fs n ≡ ok g → lookup (fs ++ gs) n ≡ ok g
 unfolding lookup
-lookup-more [] gs n g h = false-true (cc)
-lookup-more (f ∷ fs) gs n g h = go (eqb (recordNumber f) n) h (lookup-more fs gs n g)
+lookup_more [] gs n g h = false_true (cc)
+lookup_more (f ∷ fs) gs n g h = go (eqb (record_number f) n) h (lookup_more fs gs n g)
   where
     go : (b : Bool) → cond b (ok f) (lookup fs n) ≡ ok g → (lookup fs n ≡ ok g → lookup (fs ++ gs) n ≡ ok g) → cond b (ok f) (lookup (fs ++ gs) n) ≡ ok g
     go true h ih = h
     go false h ih = ih h
 
-pub lookup-after : (fs gs : List Filed) (n m : ℕ) → lookup fs n ≡ refused m → lookup (fs ++ gs) n ≡ lookup gs n
+pub lookup_after : (fs gs : List Filed) (n m : ℕ) → lookup fs n ≡ refused m → lookup (fs ++ gs) n ≡ lookup gs n
 unfolding lookup
-lookup-after [] gs n m h = refl
-lookup-after (f ∷ fs) gs n m h = go (eqb (recordNumber f) n) h (lookup-after fs gs n m)
+lookup_after [] gs n m h = refl
+lookup_after (f ∷ fs) gs n m h = go (eqb (record_number f) n) h (lookup_after fs gs n m)
   where
     go : (b : Bool) → cond b (ok f) (lookup fs n) ≡ refused m → (lookup fs n ≡ refused m → lookup (fs ++ gs) n ≡ lookup gs n)
         → cond b (ok f) (lookup (fs ++ gs) n) ≡ lookup gs n
-    go true h ih = false-true (cc)
+    go true h ih = false_true (cc)
     go false h ih = ih h
 
-pub find-more : (size at : ℕ) (fs gs : List Filed) (n p : ℕ) → findIn size at fs n ≡ ok p → findIn size at (fs ++ gs) n ≡ ok p
-unfolding findIn
-find-more size at [] gs n p h = false-true (cc)
-find-more size at (f ∷ fs) gs n p h = go (eqb (recordNumber f) n) h (find-more size (placeAfter size at f) fs gs n p)
+pub find_more : (size at : ℕ) (fs gs : List Filed) (n p : ℕ) → find_in size at fs n ≡ ok p → find_in size at (fs ++ gs) n ≡ ok p
+unfolding find_in
+find_more size at [] gs n p h = false_true (cc)
+find_more size at (f ∷ fs) gs n p h = go (eqb (record_number f) n) h (find_more size (place_after size at f) fs gs n p)
   where
-    go : (b : Bool) → cond b (ok at) (findIn size (placeAfter size at f) fs n) ≡ ok p
-        → (findIn size (placeAfter size at f) fs n ≡ ok p → findIn size (placeAfter size at f) (fs ++ gs) n ≡ ok p)
-        → cond b (ok at) (findIn size (placeAfter size at f) (fs ++ gs) n) ≡ ok p
+    go : (b : Bool) → cond b (ok at) (find_in size (place_after size at f) fs n) ≡ ok p
+        → (find_in size (place_after size at f) fs n ≡ ok p → find_in size (place_after size at f) (fs ++ gs) n ≡ ok p)
+        → cond b (ok at) (find_in size (place_after size at f) (fs ++ gs) n) ≡ ok p
     go true h ih = h
     go false h ih = ih h
 
 -- a number that the list has not is looked for in what follows
-pub find-after : (size at : ℕ) (fs gs : List Filed) (n m : ℕ) → Shaped size fs → findIn size at fs n ≡ refused m
-    → findIn size at (fs ++ gs) n ≡ findIn size (at + length (body fs)) gs n
-unfolding findIn body
-find-after size at [] gs n m s h = let z : at ≡ at + 0 = omega arith in ap (λ (y : ℕ). findIn size y gs n) z
-find-after size at (f ∷ fs) gs n m s h =
-    go (eqb (recordNumber f) n) h (find-after size (placeAfter size at f) fs gs n m s.2) (body-next size at f fs s.0)
+pub find_after : (size at : ℕ) (fs gs : List Filed) (n m : ℕ) → Shaped size fs → find_in size at fs n ≡ refused m
+    → find_in size at (fs ++ gs) n ≡ find_in size (at + length (body fs)) gs n
+unfolding find_in body
+find_after size at [] gs n m s h = let z : at ≡ at + 0 = omega arith in ap (λ (y : ℕ). find_in size y gs n) z
+find_after size at (f ∷ fs) gs n m s h =
+    go (eqb (record_number f) n) h (find_after size (place_after size at f) fs gs n m s.2) (body_next size at f fs s.0)
   where
-    go : (b : Bool) {end : ℕ} → cond b (ok at) (findIn size (placeAfter size at f) fs n) ≡ refused m
-        → (findIn size (placeAfter size at f) fs n ≡ refused m
-        → findIn size (placeAfter size at f) (fs ++ gs) n ≡ findIn size (placeAfter size at f + length (body fs)) gs n)
-        → placeAfter size at f + length (body fs) ≡ end
-        → cond b (ok at) (findIn size (placeAfter size at f) (fs ++ gs) n) ≡ findIn size end gs n
-    go true h ih z = false-true (cc)
-    go false h ih z = ih h ∙ ap (λ (y : ℕ). findIn size y gs n) z
+    go : (b : Bool) {end : ℕ} → cond b (ok at) (find_in size (place_after size at f) fs n) ≡ refused m
+        → (find_in size (place_after size at f) fs n ≡ refused m
+        → find_in size (place_after size at f) (fs ++ gs) n ≡ find_in size (place_after size at f + length (body fs)) gs n)
+        → place_after size at f + length (body fs) ≡ end
+        → cond b (ok at) (find_in size (place_after size at f) (fs ++ gs) n) ≡ find_in size end gs n
+    go true h ih z = false_true (cc)
+    go false h ih z = ih h ∙ ap (λ (y : ℕ). find_in size y gs n) z
 
-pub place-more : (size at : ℕ) (fs gs : List Filed) (i p : ℕ) → place_in size at fs i ≡ ok p → place_in size at (fs ++ gs) i ≡ ok p
+pub place_more : (size at : ℕ) (fs gs : List Filed) (i p : ℕ) → place_in size at fs i ≡ ok p → place_in size at (fs ++ gs) i ≡ ok p
 unfolding place_in
-place-more size at [] gs i p h = false-true (cc)
-place-more size at (f ∷ fs) gs zero p h = h
-place-more size at (f ∷ fs) gs (suc i) p h = place-more size (placeAfter size at f) fs gs i p h
+place_more size at [] gs i p h = false_true (cc)
+place_more size at (f ∷ fs) gs zero p h = h
+place_more size at (f ∷ fs) gs (suc i) p h = place_more size (place_after size at f) fs gs i p h
 
 -- ---- numbers that rise
 
-pub last-above : (p : ℕ) (fs : List Filed) → rising p fs ≡ true → p ≤ lastNumber p fs
-unfolding rising lastNumber
-last-above p [] r = omega arith
-last-above p (f ∷ fs) r =
-    let b : (ltb p (recordNumber f) ≡ true) × (rising (recordNumber f) fs ≡ true) = both _ _ r in
-    omega (arith, ltb-true p (recordNumber f) b.0, last-above (recordNumber f) fs b.1)
+pub last_above : (p : ℕ) (fs : List Filed) → rising p fs ≡ true → p ≤ last_number p fs
+unfolding rising last_number
+last_above p [] r = omega arith
+last_above p (f ∷ fs) r =
+    let b : (ltb p (record_number f) ≡ true) × (rising (record_number f) fs ≡ true) = both _ _ r in
+    omega (arith, ltb-true p (record_number f) b.0, last_above (record_number f) fs b.1)
 
 -- a number above the last is not in the list
-pub find-above : (size at p : ℕ) (fs : List Filed) (n : ℕ) → rising p fs ≡ true → lastNumber p fs < n → findIn size at fs n ≡ refused 6
-unfolding rising lastNumber findIn
-find-above size at p [] n r h = refl
-find-above size at p (f ∷ fs) n r h =
-    let b : (ltb p (recordNumber f) ≡ true) × (rising (recordNumber f) fs ≡ true) = both _ _ r in
-    let other : recordNumber f ≡ n → ⊥ = λ same. omega (arith, same, last-above (recordNumber f) fs b.1) in
-    rw (ne_eqb _ _ other) (find-above size (placeAfter size at f) (recordNumber f) fs n b.1 h)
+pub find_above : (size at p : ℕ) (fs : List Filed) (n : ℕ) → rising p fs ≡ true → last_number p fs < n → find_in size at fs n ≡ refused 6
+unfolding rising last_number find_in
+find_above size at p [] n r h = refl
+find_above size at p (f ∷ fs) n r h =
+    let b : (ltb p (record_number f) ≡ true) × (rising (record_number f) fs ≡ true) = both _ _ r in
+    let other : record_number f ≡ n → ⊥ = λ same. omega (arith, same, last_above (record_number f) fs b.1) in
+    rw (ne_eqb _ _ other) (find_above size (place_after size at f) (record_number f) fs n b.1 h)
 
 -- ---- places
 
 -- the places of the trailer are the records'
 pub place_at : (size k : ℕ) (l : List ℕ) (t at q i : ℕ) → t ≤ length l → runs size k l t at q ≡ true → i < k
-    → place_in size at (filedFrom size k l at) i ≡ ok (word2 l (q + 2 * i))
-unfolding place_in filedFrom
+    → place_in size at (filed_from size k l at) i ≡ ok (word2 l (q + 2 * i))
+unfolding place_in filed_from
 place_at size zero l t at q i h r s = absurd (omega arith)
 place_at size (suc k) l t at q zero h r s =
     let m : Ran size k l t at q = ran r in
@@ -196,12 +196,12 @@ place_at size (suc k) l t at q (suc i) h r s =
     let m : Ran size k l t at q = ran r in
     let n : next_at size l at ≤ length l = omega arith in
     let z : q + 2 + 2 * i ≡ q + 2 * suc i = omega arith in
-    ap (λ (y : ℕ). place_in size (at + size + 1 + y) (filedFrom size k l (next_at size l at)) i) (title-length size l at n)
+    ap (λ (y : ℕ). place_in size (at + size + 1 + y) (filed_from size k l (next_at size l at)) i) (title_length size l at n)
     ∙ place_at size k l t (next_at size l at) (q + 2) i h m.on (omega arith)
     ∙ ap (λ (y : ℕ). ok (word2 l y)) z
 
-pub place-beyond : (size p : ℕ) (fs : List Filed) (i : ℕ) → length fs ≤ i → place_in size p fs i ≡ refused 6
+pub place_beyond : (size p : ℕ) (fs : List Filed) (i : ℕ) → length fs ≤ i → place_in size p fs i ≡ refused 6
 unfolding place_in
-place-beyond size p [] i h = refl
-place-beyond size p (f ∷ fs) zero h = absurd (omega arith)
-place-beyond size p (f ∷ fs) (suc i) h = place-beyond size (placeAfter size p f) fs i (omega arith)
+place_beyond size p [] i h = refl
+place_beyond size p (f ∷ fs) zero h = absurd (omega arith)
+place_beyond size p (f ∷ fs) (suc i) h = place_beyond size (place_after size p f) fs i (omega arith)

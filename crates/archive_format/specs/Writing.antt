@@ -1,15 +1,15 @@
 -- What a call that writes to a lent buffer says where it accepts.
 use Rattle.std.specs.Prelude.{ℕ, ◌≤◌, ◌≡◌, List, length}
 use Rattle.std.proofs.Common.{arith, length-append}
-use Rattle.refusal.specs.Refusal.{Or, refused, ok, false-true}
+use Rattle.refusal.specs.Refusal.{Or, refused, ok, false_true}
 use Rattle.archive_format.specs.declared.Answer.{Answer}
 use Rattle.archive_format.specs.declared.Answer.TheVariants.{Value}
-use Rattle.archive_format.specs.Archive.{newLength, overwrite, Writes}
+use Rattle.archive_format.specs.Archive.{new_length, overwrite, Writes}
 
 -- the length answered lies within the buffer
-pub writes-within : {x : Or (List ℕ)} {before : List ℕ} {r : Answer} {after : List ℕ} {n : ℕ} → Writes x before r after → r ≡ Value n → n ≤ length after
-writes-within {x} {before} {r} {after} {n} w e = go x w.answer w.buffer
+pub writes_within : {x : Or (List ℕ)} {before : List ℕ} {r : Answer} {after : List ℕ} {n : ℕ} → Writes x before r after → r ≡ Value n → n ≤ length after
+writes_within {x} {before} {r} {after} {n} w e = go x w.answer w.buffer
   where
-    go : (y : Or (List ℕ)) → r ≡ newLength y → after ≡ overwrite y before → n ≤ length after
-    go (refused m) a b = false-true (cc)
+    go : (y : Or (List ℕ)) → r ≡ new_length y → after ≡ overwrite y before → n ≤ length after
+    go (refused m) a b = false_true (cc)
     go (ok new) a b = let same : length new ≡ n = cc in rw (b, length-append) (omega arith)

@@ -1,6 +1,6 @@
 // Archives of segment records (paper 01: drawers of cards). What they mean is in specs/.
 ghost use Rattle.std.specs.Prelude.{◌≡◌, []};
-ghost use Rattle.archive_format.specs.Archive.{encode, firstEdition};
+ghost use Rattle.archive_format.specs.Archive.{encode, first_edition};
 
 // The most records that an archive holds.
 pub const RECORD_LIMIT: usize = 512;
@@ -39,7 +39,7 @@ pub enum TitlePart {
 
 // The archive with no records.
 pub fn empty() -> [u8; 6]
-    ensures { result ≡ encode firstEdition [] }
+    ensures { result ≡ encode first_edition [] }
 {
     [0, 0, 0, 0, FIRST_EDITION.first, FIRST_EDITION.second]
 }

@@ -1,28 +1,28 @@
 -- The parts of an archive, as they are written.
 use Rattle.std.specs.Prelude.{ℕ, ◌+◌, ◌*◌, ◌≤◌, ◌<◌, ◌≡◌, List, [], ◌∷◌, ◌++◌, length, take, drop}
 use Rattle.std.proofs.Common.{arith, length-append}
-use Rattle.octets.specs.Octets.{bytes2, word2Bound}
+use Rattle.octets.specs.Octets.{bytes2, word2_bound}
 use Rattle.archive_format.specs.declared.Edition.{Edition}
-use Rattle.archive_format.specs.Archive.{recordLimit}
+use Rattle.archive_format.specs.Archive.{record_limit}
 
-abbrev pub recordBytes : List ℕ → List ℕ → List ℕ
-recordBytes b t = b ++ (length t ∷ t)
+abbrev pub record_bytes : List ℕ → List ℕ → List ℕ
+record_bytes b t = b ++ (length t ∷ t)
 
-pub record-length : (b ti : List ℕ) → length (recordBytes b ti) ≡ length b + 1 + length ti
-record-length b ti = simp length-append (omega arith)
+pub record_length : (b ti : List ℕ) → length (record_bytes b ti) ≡ length b + 1 + length ti
+record_length b ti = simp length-append (omega arith)
 
-abbrev pub endBytes : Edition → ℕ → ℕ → List ℕ
-endBytes e count trailer = bytes2 count ++ (bytes2 trailer ++ (e.first ∷ e.second ∷ []))
+abbrev pub end_bytes : Edition → ℕ → ℕ → List ℕ
+end_bytes e count trailer = bytes2 count ++ (bytes2 trailer ++ (e.first ∷ e.second ∷ []))
 
 -- an archive that was read, with one record more: of the old one, the records before its trailer at t and its places
 unfoldable pub grown : Edition → List ℕ → ℕ → ℕ → List ℕ → List ℕ → List ℕ
 grown e l count t b ti =
-    take t l ++ (recordBytes b ti ++ (take (2 * count) (drop t l) ++ (bytes2 t ++ endBytes e (count + 1) (t + length (recordBytes b ti)))))
+    take t l ++ (record_bytes b ti ++ (take (2 * count) (drop t l) ++ (bytes2 t ++ end_bytes e (count + 1) (t + length (record_bytes b ti)))))
 
 -- what writing it asks, by the lengths of the old archive, the record, the title and the buffer
 pub record Fits (count t old segment title room : ℕ) : Type 0 where
-  pub few : count < recordLimit
+  pub few : count < record_limit
   pub short : title < 256
-  pub placed : t + segment + 1 + title < word2Bound
+  pub placed : t + segment + 1 + title < word2_bound
   pub held : t + 2 * count ≤ old
   pub enough : t + segment + 1 + title + 2 * count + 8 ≤ room

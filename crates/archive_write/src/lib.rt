@@ -1,9 +1,9 @@
 // Writing an archive with one record more into a lent buffer, part by part from a place on; each part returns the place after it.
 // A lower layer's function: `grow` asks of its caller that the bytes fit.
 ghost use Rattle.std.specs.Prelude.{◌≡◌, ◌/◌, ◌%◌, ◌<◌, length};
-ghost use Rattle.octets.specs.Octets.{bytes2, word2Bound};
+ghost use Rattle.octets.specs.Octets.{bytes2, word2_bound};
 ghost use Rattle.buffer.specs.Buffer.{Wrote};
-ghost use Rattle.archive_write.specs.Writing.{recordBytes, endBytes, grown, Fits};
+ghost use Rattle.archive_write.specs.Writing.{record_bytes, end_bytes, grown, Fits};
 
 use archive_format::Edition;
 use buffer::put;
@@ -15,7 +15,7 @@ fn low(x: usize) -> u8
 }
 
 fn high(x: usize) -> u8
-    requires { x < word2Bound }
+    requires { x < word2_bound }
     ensures { result ≡ x / 256 }
 {
     (x / 256) as u8
@@ -24,7 +24,7 @@ fn high(x: usize) -> u8
 // A record, its title's length and its title.
 fn put_record(out: &mut [u8], at: usize, segment: &[u8], title: &[u8]) -> usize
     requires { length title.now < 256 }
-    ensures { Wrote out.old at (recordBytes segment.now title.now) out.new result }
+    ensures { Wrote out.old at (record_bytes segment.now title.now) out.new result }
 {
     let a = put(out, at, segment);
     let n = [low(title.len())];
@@ -34,7 +34,7 @@ fn put_record(out: &mut [u8], at: usize, segment: &[u8], title: &[u8]) -> usize
 
 // A place, in two bytes.
 fn put_place(out: &mut [u8], at: usize, place: usize) -> usize
-    requires { place < word2Bound }
+    requires { place < word2_bound }
     ensures { Wrote out.old at (bytes2 place) out.new result }
 {
     let lo = low(place);
@@ -45,8 +45,8 @@ fn put_place(out: &mut [u8], at: usize, place: usize) -> usize
 
 // What ends a trailer after its places: the count, the trailer's own place, the mark.
 fn put_end(e: Edition, out: &mut [u8], at: usize, count: usize, trailer: usize) -> usize
-    requires { (count < word2Bound) × (trailer < word2Bound) }
-    ensures { Wrote out.old at (endBytes e count trailer) out.new result }
+    requires { (count < word2_bound) × (trailer < word2_bound) }
+    ensures { Wrote out.old at (end_bytes e count trailer) out.new result }
 {
     let count_lo = low(count);
     let count_hi = high(count);

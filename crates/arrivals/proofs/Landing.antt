@@ -4,9 +4,9 @@ use native.Mathlib.Omega.{arith}
 use mathlib.Core.Path.{◌≡◌, ap, ◌∙◌}
 use mathlib.Core.List.{List, ◌∷◌}
 use lib.ListN.{length, set, get_or}
-use Rattle.signal.specs.Turn.{turn, turn-pos, turn-le, turn-next}
-use Rattle.signal.specs.Adding.{Adding, adding-start, place-within, place-clear, adding-turn}
-use Rattle.arrivals.specs.Arrivals.{arrivalLimit, LandsFit}
+use Rattle.signal.specs.Turn.{turn, turn_pos, turn_le, turn_next}
+use Rattle.signal.specs.Adding.{Adding, adding_start, place_within, place_clear, adding_turn}
+use Rattle.arrivals.specs.Arrivals.{arrival_limit, LandsFit}
 
 -- i arrivals are done, and what is left of all that they bring is to come; the next one lands in step `lands`
 pub record Landing (t : ℕ) (arrived all left run₀ run : List ℕ) (lands i : ℕ) : Type 0 where
@@ -14,33 +14,33 @@ pub record Landing (t : ℕ) (arrived all left run₀ run : List ℕ) (lands i :
   pub place : lands ≡ turn (length run₀) (i + 1 + t)
   pub adding : Adding t all left run₀ run i
 
-pub landing-start : (t : ℕ) (arrived all run : List ℕ) {lands : ℕ} → lands ≡ turn (length run) (1 + t) → Landing t arrived all all run run lands 0
-landing-start t arrived all run e = record { within = omega arith; place = e; adding = adding-start _ _ _ }
+pub landing_start : (t : ℕ) (arrived all run : List ℕ) {lands : ℕ} → lands ≡ turn (length run) (1 + t) → Landing t arrived all all run run lands 0
+landing_start t arrived all run e = record { within = omega arith; place = e; adding = adding_start _ _ _ }
 
 module _ {t : ℕ} {arrived all left run₀ run : List ℕ} {lands i : ℕ} (r : Landing t arrived all left run₀ run lands i) (a : LandsFit t arrived run₀) where
   -- the step that it lands in is one of the cycle
-  pub lands-pos : 0 < lands
-  lands-pos = rw r.place (turn-pos (length run₀) (i + 1 + t))
+  pub lands_pos : 0 < lands
+  lands_pos = rw r.place (turn_pos (length run₀) (i + 1 + t))
 
-  pub lands-le : lands ≤ length run₀
-  lands-le = rw r.place (turn-le (length run₀) (i + 1 + t) a.some)
+  pub lands_le : lands ≤ length run₀
+  lands_le = rw r.place (turn_le (length run₀) (i + 1 + t) a.some)
 
   module _ (more : i < length arrived) {at : ℕ} (e : at ≡ lands - 1) where
-    in-cycle : i < length run₀
-    in-cycle = omega (arith, a.long)
+    in_cycle : i < length run₀
+    in_cycle = omega (arith, a.long)
 
-    pub at-within : at < length run
-    at-within = place-within r.adding in-cycle r.place e
+    pub at_within : at < length run
+    at_within = place_within r.adding in_cycle r.place e
 
-    pub sum_fits : {p : ℕ} → p ≤ arrivalLimit → get_or run at 0 + p < 2 ^ 32
-    sum_fits h = rw (place-clear r.adding in-cycle r.place e) (omega (arith, a.small at))
+    pub sum_fits : {p : ℕ} → p ≤ arrival_limit → get_or run at 0 + p < 2 ^ 32
+    sum_fits h = rw (place_clear r.adding in_cycle r.place e) (omega (arith, a.small at))
 
-    pub landing-turn : {p : ℕ} {ps : List ℕ} → left ≡ p ∷ ps → {after : ℕ} → after ≡ turn (length run₀) (lands + 1) →
+    pub landing_turn : {p : ℕ} {ps : List ℕ} → left ≡ p ∷ ps → {after : ℕ} → after ≡ turn (length run₀) (lands + 1) →
         Landing t arrived all ps run₀ (set run at (get_or run at 0 + p)) after (i + 1)
-    landing-turn next n =
+    landing_turn next n =
         let step : i + 1 + t + 1 ≡ i + 1 + 1 + t = omega arith in
         record {
           within = omega arith;
-          place = n ∙ rw r.place (turn-next (length run₀) (i + 1 + t) (omega arith)) ∙ ap (turn (length run₀)) step;
-          adding = adding-turn r.adding in-cycle r.place e next;
+          place = n ∙ rw r.place (turn_next (length run₀) (i + 1 + t) (omega arith)) ∙ ap (turn (length run₀)) step;
+          adding = adding_turn r.adding in_cycle r.place e next;
         }

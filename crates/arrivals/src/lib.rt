@@ -2,8 +2,8 @@
 // Access begins the runs; then each signalised entry's arrivals are added, pair by pair, where they land.
 ghost use Rattle.std.specs.Prelude.{◌≡◌, ◌+◌, ◌-◌, ◌*◌, ◌≤◌, ◌<◌, length};
 ghost use Rattle.signal.specs.Landing.{added};
-ghost use Rattle.pair_parts.specs.PairParts.{part_of, rest_of, pairArrivals};
-ghost use Rattle.arrivals.specs.Arrivals.{LandsFit, PairFits, EntryFits, begun, entryAdded};
+ghost use Rattle.pair_parts.specs.PairParts.{part_of, rest_of, pair_arrivals};
+ghost use Rattle.arrivals.specs.Arrivals.{LandsFit, PairFits, EntryFits, begun, entry_added};
 
 use signal::Step;
 
@@ -29,7 +29,7 @@ fn part_of(arrival: u32, v: u32, w: u32, carry: u32) -> Part
 // One run: the parts of an entry's arrivals that go to its exit are added where their steps land, remainder carried from step to step.
 fn add_pair(arrived: &[u32], v: u32, w: u32, t: u32, run: &mut [u32])
     requires { PairFits v w t arrived.now run.old }
-    ensures { run.new ≡ added (length run.old) t 1 (pairArrivals v w arrived.now) run.old }
+    ensures { run.new ≡ added (length run.old) t 1 (pair_arrivals v w arrived.now) run.old }
 {
     if v == 0 {
         return;
@@ -67,7 +67,7 @@ pub fn add_whole(arrived: &[u32], t: u32, run: &mut [u32])
 // One entry: to each of the four runs its pair's arrivals are added.
 pub fn add_entry(arrived: &[u32], row: [u32; 4], w: u32, t: u32, out: &mut [u32])
     requires { EntryFits w t row arrived.now out.old }
-    ensures { out.new ≡ entryAdded (length arrived.now) t w arrived.now row out.old }
+    ensures { out.new ≡ entry_added (length arrived.now) t w arrived.now row out.old }
 {
     let c = arrived.len();
     let mut j: usize = 0;

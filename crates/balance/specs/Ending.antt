@@ -13,15 +13,15 @@ use Rattle.movements.specs.declared.Seeds.{Seeds}
 use Rattle.balance_flows.specs.declared.Flows.{Flows}
 use Rattle.balance_flows.specs.declared.FlowTable.{FlowTable}
 use Rattle.balance_round.specs.declared.Round.{Round}
-use Rattle.balance_round.specs.Round.{roundOf, stops}
+use Rattle.balance_round.specs.Round.{round_of, stops}
 use Rattle.balance.specs.declared.Balance.{Balance}
-use Rattle.balance.specs.Settling.{roundLimit, threshold, cells_of, unsettled, byCells, closed}
+use Rattle.balance.specs.Settling.{round_limit, threshold, cells_of, unsettled, by_cells, closed}
 use Rattle.balance.specs.Settling.{Running, Ended, start, after, next, rounds, report, settle, balanced}
 
 -- round k; 0 is what stands before the first. Each starts from the adjusted origins of the one before.
 unfoldable pub nth : Flows → Flows → FlowTable → ℕ → Round
 nth o d p zero = start o
-nth o d p (suc k) = roundOf o d p (nth o d p k).origins
+nth o d p (suc k) = round_of o d p (nth o d p k).origins
 
 -- round k + 1 reaches its sum and does not settle
 abbrev pub GoesOn : Flows → Flows → FlowTable → ℕ → Type 0
@@ -39,9 +39,9 @@ pub data Ending (o d : Flows) (p : FlowTable) (limit : ℕ) : Balance → Type 0
   spent : Open o d p limit → Ending o d p limit (unsettled (nth o d p limit).change limit)
 
 -- finite or not, the cells do not change the rounds
-cells-rounds : (b : Bool) (c : FlowTable) (sum : Float) (n : ℕ) → (byCells b c sum n).rounds ≡ n
-cells-rounds true c sum n = refl
-cells-rounds false c sum n = refl
+cells_rounds : (b : Bool) (c : FlowTable) (sum : Float) (n : ℕ) → (by_cells b c sum n).rounds ≡ n
+cells_rounds true c sum n = refl
+cells_rounds false c sum n = refl
 
 module _ (o d : Flows) (p : FlowTable) where
   pub ended : (k : ℕ) (b : Balance) → rounds k o d p (Ended b) ≡ Ended b
@@ -66,20 +66,20 @@ module _ (o d : Flows) (p : FlowTable) where
     more zero n e op = let q : n ≡ limit = omega arith in rw q (spent (subst (Open o d p) q op))
     more (suc k) n e op = one k n _ _ (omega arith) op refl refl (more k (suc n) (omega arith))
 
-    pub settle-ends : Ending o d p limit (settle limit o d p)
+    pub settle_ends : Ending o d p limit (settle limit o d p)
     unfolding settle nth
-    settle-ends = more limit 0 (omega arith) (λ k h. absurd (not-suc-le-zero h))
+    settle_ends = more limit 0 (omega arith) (λ k h. absurd (not-suc-le-zero h))
 
     -- none of the three ways has more rounds than the limit
-    ending-rounds : {b : Balance} → Ending o d p limit b → b.rounds ≤ limit
+    ending_rounds : {b : Balance} → Ending o d p limit b → b.rounds ≤ limit
     unfolding closed
-    ending-rounds (stopped n h op e) = omega arith
-    ending-rounds (settles n h op e f) = rw cells-rounds h
-    ending-rounds (spent op) = omega arith
+    ending_rounds (stopped n h op e) = omega arith
+    ending_rounds (settles n h op e f) = rw cells_rounds h
+    ending_rounds (spent op) = omega arith
 
-    pub settle-rounds : (settle limit o d p).rounds ≤ limit
-    settle-rounds = ending-rounds settle-ends
+    pub settle_rounds : (settle limit o d p).rounds ≤ limit
+    settle_rounds = ending_rounds settle_ends
 
-pub balanced-rounds : (o exits : Counts) (seeds : Seeds) → (balanced o exits seeds).rounds ≤ roundLimit
+pub balanced_rounds : (o exits : Counts) (seeds : Seeds) → (balanced o exits seeds).rounds ≤ round_limit
 unfolding balanced
-balanced-rounds o exits seeds = settle-rounds _ _ _ roundLimit
+balanced_rounds o exits seeds = settle_rounds _ _ _ round_limit

@@ -6,59 +6,59 @@ use Rattle.movements.specs.declared.Counts.{Counts}
 use Rattle.movements.specs.declared.Seeds.{Seeds}
 use Rattle.balance_flows.specs.declared.Flows.{Flows}
 use Rattle.balance_flows.specs.declared.FlowTable.{FlowTable}
-use Rattle.balance_flows.specs.Flows.{zero64, times, flowsOf, noFlows, noTable, tableFinite}
+use Rattle.balance_flows.specs.Flows.{zero64, times, flows_of, no_flows, no_table, table_finite}
 use Rattle.balance_round.specs.declared.Round.{Round}
-use Rattle.balance_round.specs.Round.{roundOf, stops}
+use Rattle.balance_round.specs.Round.{round_of, stops}
 use Rattle.balance.specs.declared.Settling.{Settling}
 use Rattle.balance.specs.declared.Settling.TheVariants.{Settled, Unsettled}
 use Rattle.balance.specs.declared.Balance.{Balance}
-use Rattle.balance_volumes.specs.Volumes.{dischargeFloats, exitFloats, proportions, destinationVolumes}
+use Rattle.balance_volumes.specs.Volumes.{discharge_floats, exit_floats, proportions, destination_volumes}
 
 -- at most so many rounds
-abbrev pub roundLimit : ℕ
-roundLimit = 200
+abbrev pub round_limit : ℕ
+round_limit = 200
 
 -- a sum of differences below it settles
 abbrev pub threshold : Float
 threshold = of_bits binary64 0x3f84_7ae1_47ae_147b
 
 -- it is 1/100, rounded once
-pub threshold-is : threshold ≡ round binary64 false 1 100
+pub threshold_is : threshold ≡ round binary64 false 1 100
 unfolding of_bits round
-threshold-is = refl
+threshold_is = refl
 
 -- (Oa·b)·p
 abbrev pub cell : Float → Float → Float → Float
 cell oa b p = times (times oa b) p
 
-unfoldable pub cellRow : Float → Flows → Flows → Flows
-cellRow oa b p = flowsOf (cell oa b.left p.left) (cell oa b.through p.through) (cell oa b.right p.right) (cell oa b.access p.access)
+unfoldable pub cell_row : Float → Flows → Flows → Flows
+cell_row oa b p = flows_of (cell oa b.left p.left) (cell oa b.through p.through) (cell oa b.right p.right) (cell oa b.access p.access)
 
 -- new Oa, this round's b
 unfoldable pub cells_of : Flows → Flows → FlowTable → FlowTable
 cells_of origins b p =
     record {
-      left = cellRow origins.left b p.left;
-      through = cellRow origins.through b p.through;
-      right = cellRow origins.right b p.right;
-      access = cellRow origins.access b p.access;
+      left = cell_row origins.left b p.left;
+      through = cell_row origins.through b p.through;
+      right = cell_row origins.right b p.right;
+      access = cell_row origins.access b p.access;
     }
 
 -- the settling's cases: the paper's number, 0 where settled, and the last sum of differences reached
-abbrev pub settlingOf : (number : ℕ) → (sum : Float) → Settling
-settlingOf number sum = cond (eqb number 0) (Settled sum) (Unsettled sum)
+abbrev pub settling_of : (number : ℕ) → (sum : Float) → Settling
+settling_of number sum = cond (eqb number 0) (Settled sum) (Unsettled sum)
 
 -- unsettled, 15, with the last sum reached; no cells
 abbrev pub unsettled : Float → ℕ → Balance
-unsettled sum n = record { settling = settlingOf 15 sum; rounds = n; cells = noTable }
+unsettled sum n = record { settling = settling_of 15 sum; rounds = n; cells = no_table }
 
-abbrev pub byCells : Bool → FlowTable → Float → ℕ → Balance
-byCells true c sum n = record { settling = settlingOf 0 sum; rounds = n; cells = c }
-byCells false c sum n = unsettled sum n
+abbrev pub by_cells : Bool → FlowTable → Float → ℕ → Balance
+by_cells true c sum n = record { settling = settling_of 0 sum; rounds = n; cells = c }
+by_cells false c sum n = unsettled sum n
 
 -- the round that settles is the nth: a cell not finite counts as unsettled, with this round's sum
 unfoldable pub closed : FlowTable → Float → ℕ → Balance
-closed c sum n = byCells (tableFinite c) c sum n
+closed c sum n = by_cells (table_finite c) c sum n
 
 -- the settling after n rounds, with the last of them; or its answer
 pub data Stage : Type 0 where
@@ -67,7 +67,7 @@ pub data Stage : Type 0 where
 
 -- before the first round Oa = O, and there is no sum
 unfoldable pub start : Flows → Round
-start o = record { destinations = noFlows; ratios = noFlows; factors = noFlows; origins = o; change = zero64 }
+start o = record { destinations = no_flows; ratios = no_flows; factors = no_flows; origins = o; change = zero64 }
 
 -- After n rounds, the last of which is `before`, comes the round x. Where it stops early it keeps the sum of the round before.
 -- Else it settles where its sum is below the threshold.
@@ -79,7 +79,7 @@ after false false p n before x = Running (n + 1) x
 unfoldable pub next : Flows → Flows → FlowTable → Stage → Stage
 next o d p (Ended b) = Ended b
 next o d p (Running n before) =
-    let x = roundOf o d p before.origins in
+    let x = round_of o d p before.origins in
     after (stops o d x) (lt x.change threshold) p n before x
 
 -- k rounds more
@@ -98,5 +98,5 @@ settle limit o d p = report (rounds limit o d p (Running 0 (start o)))
 -- the settling of discharge O, exit volumes and seeds
 unfoldable pub balanced : Counts → Counts → Seeds → Balance
 balanced o exits seeds =
-    let origins = dischargeFloats o in
-    settle roundLimit origins (destinationVolumes origins (exitFloats exits)) (proportions seeds)
+    let origins = discharge_floats o in
+    settle round_limit origins (destination_volumes origins (exit_floats exits)) (proportions seeds)

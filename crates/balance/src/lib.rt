@@ -1,8 +1,8 @@
 // Balancing of discharge and exit volumes over the sixteen pairs of an entry and an exit:
 // rounds of equations 30-4 to 30-7 until the adjusted origins settle.
 ghost use Rattle.std.specs.Prelude.{◌≡◌};
-ghost use Rattle.balance_flows.specs.Flows.{noFlows};
-ghost use Rattle.balance.specs.Settling.{roundLimit, cell, cellRow, cells_of, unsettled, closed, start, settle, balanced};
+ghost use Rattle.balance_flows.specs.Flows.{no_flows};
+ghost use Rattle.balance.specs.Settling.{round_limit, cell, cell_row, cells_of, unsettled, closed, start, settle, balanced};
 
 use balance_flows::{FlowTable, Flows};
 use balance_round::Round;
@@ -35,7 +35,7 @@ fn cell(oa: f64, b: f64, p: f64) -> f64
 }
 
 fn cell_row(oa: f64, b: Flows, p: Flows) -> Flows
-    ensures { result ≡ cellRow oa b p }
+    ensures { result ≡ cell_row oa b p }
 {
     Flows {
         left: cell(oa, b.left, p.left),
@@ -57,7 +57,7 @@ fn cells_of(origins: Flows, b: Flows, p: FlowTable) -> FlowTable
 }
 
 fn no_flows() -> Flows
-    ensures { result ≡ noFlows }
+    ensures { result ≡ no_flows }
 {
     Flows {
         left: 0.0,
@@ -112,7 +112,7 @@ fn start(o: Flows) -> Round
 }
 
 fn settle(o: Flows, d: Flows, p: FlowTable) -> Balance
-    ensures { result ≡ settle roundLimit o d p }
+    ensures { result ≡ settle round_limit o d p }
 {
     let mut before = start(o);
     let mut n: u32 = 0;

@@ -10,38 +10,38 @@ use Rattle.balance.specs.declared.Balance.{Balance}
 use Rattle.balance.specs.declared.Settling.TheVariants as settling
 use Rattle.balance.specs.Settling.{balanced}
 use Rattle.pair_flows.specs.declared.PairFlows.{PairFlows}
-use Rattle.pair_flows.specs.Pairs.{pairFlows}
-use Rattle.balance_pairs.specs.Pairs.{pairRows}
-use Rattle.balance_refusals.specs.Refusals.{noVolume, anyUnservedEntry, anyUnservedExit}
+use Rattle.pair_flows.specs.Pairs.{pair_flows}
+use Rattle.balance_pairs.specs.Pairs.{pair_rows}
+use Rattle.balance_refusals.specs.Refusals.{no_volume, any_unserved_entry, any_unserved_exit}
 use Rattle.balance_decision.specs.declared.Decision.{Decision}
 use Rattle.balance_decision.specs.declared.Outcome.TheVariants.{Worked, Refused, Unsettled}
-use Rattle.balance_decision.specs.Decision.{undecided, settledTo, decisionOf}
+use Rattle.balance_decision.specs.Decision.{undecided, settled_to, decision_of}
 
 module _ (o : Counts) (b : Balance) (x : Float) where
-  pub settled_is : (g : PairFlows) → b.settling ≡ settling.Settled x → g ≡ pairFlows (pairRows b.cells o) →
-      ◌≡◌ {A = Decision} (record { outcome = Worked x; rounds = b.rounds; pairs = g }) (settledTo o b)
-  unfolding settledTo
+  pub settled_is : (g : PairFlows) → b.settling ≡ settling.Settled x → g ≡ pair_flows (pair_rows b.cells o) →
+      ◌≡◌ {A = Decision} (record { outcome = Worked x; rounds = b.rounds; pairs = g }) (settled_to o b)
+  unfolding settled_to
   settled_is g e q = rw (e, q)
 
-  pub unsettled-is : b.settling ≡ settling.Unsettled x → undecided (Unsettled x) ≡ settledTo o b
-  unfolding settledTo
-  unsettled-is e = rw e
+  pub unsettled_is : b.settling ≡ settling.Unsettled x → undecided (Unsettled x) ≡ settled_to o b
+  unfolding settled_to
+  unsettled_is e = rw e
 
 -- what the code found of the two refusals
 pub record Tested (o exits : Counts) (s : Seeds) (empty entry exit : Bool) : Type 0 where
-  pub no-volume : empty ≡ noVolume o exits
-  pub unserved-entry : entry ≡ anyUnservedEntry o exits s
-  pub unserved-exit : exit ≡ anyUnservedExit o exits s
+  pub no_volume_lem : empty ≡ no_volume o exits
+  pub unserved_entry_lem : entry ≡ any_unserved_entry o exits s
+  pub unserved_exit_lem : exit ≡ any_unserved_exit o exits s
 
 module _ {o exits : Counts} {s : Seeds} {empty entry exit : Bool} (t : Tested o exits s empty entry exit) where
-  pub at13 : empty ≡ true → undecided (Refused 13) ≡ decisionOf o exits s
-  unfolding decisionOf need
-  at13 e = rw (← t.no-volume, e)
+  pub at13 : empty ≡ true → undecided (Refused 13) ≡ decision_of o exits s
+  unfolding decision_of need
+  at13 e = rw (← t.no_volume_lem, e)
 
-  pub at14 : empty ≡ false → (entry || exit) ≡ true → undecided (Refused 14) ≡ decisionOf o exits s
-  unfolding decisionOf need
-  at14 e u = rw (← t.no-volume, ← t.unserved-entry, ← t.unserved-exit, e, u)
+  pub at14 : empty ≡ false → (entry || exit) ≡ true → undecided (Refused 14) ≡ decision_of o exits s
+  unfolding decision_of need
+  at14 e u = rw (← t.no_volume_lem, ← t.unserved_entry_lem, ← t.unserved_exit_lem, e, u)
 
-  pub balances : empty ≡ false → (entry || exit) ≡ false → settledTo o (balanced o exits s) ≡ decisionOf o exits s
-  unfolding decisionOf need
-  balances e u = rw (← t.no-volume, ← t.unserved-entry, ← t.unserved-exit, e, u)
+  pub balances : empty ≡ false → (entry || exit) ≡ false → settled_to o (balanced o exits s) ≡ decision_of o exits s
+  unfolding decision_of need
+  balances e u = rw (← t.no_volume_lem, ← t.unserved_entry_lem, ← t.unserved_exit_lem, e, u)

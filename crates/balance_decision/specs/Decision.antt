@@ -9,32 +9,32 @@ use Rattle.balance.specs.declared.Settling.{Settling}
 use Rattle.balance.specs.declared.Settling.TheVariants.{Settled, Unsettled}
 use Rattle.balance.specs.declared.Balance.{Balance}
 use Rattle.balance.specs.Settling.{balanced}
-use Rattle.pair_flows.specs.Pairs.{pairFlows}
-use Rattle.balance_pairs.specs.Pairs.{pairRows, noPairs}
-use Rattle.balance_refusals.specs.Refusals.{noVolume, anyUnservedEntry, anyUnservedExit}
+use Rattle.pair_flows.specs.Pairs.{pair_flows}
+use Rattle.balance_pairs.specs.Pairs.{pair_rows, no_pairs}
+use Rattle.balance_refusals.specs.Refusals.{no_volume, any_unserved_entry, any_unserved_exit}
 use Rattle.balance_decision.specs.declared.Outcome.{Outcome}
 use Rattle.balance_decision.specs.declared.Decision.{Decision}
-use Rattle.balance_decision.specs.Outcome.{outcomeOf}
+use Rattle.balance_decision.specs.Outcome.{outcome_of}
 
 -- a refusal: no rounds, no flows
 abbrev pub undecided : Outcome → Decision
-undecided outcome = record { outcome = outcome; rounds = 0; pairs = pairFlows noPairs }
+undecided outcome = record { outcome = outcome; rounds = 0; pairs = pair_flows no_pairs }
 
 -- settled: its rounds and pair flows; unsettled: 15 with its last sum
-abbrev pub bySettling : Settling → ℕ → FlowTable → Counts → Decision
-bySettling (Settled sum) rounds cells o = record { outcome = outcomeOf 0 sum; rounds = rounds; pairs = pairFlows (pairRows cells o) }
-bySettling (Unsettled sum) rounds cells o = undecided (outcomeOf 15 sum)
+abbrev pub by_settling : Settling → ℕ → FlowTable → Counts → Decision
+by_settling (Settled sum) rounds cells o = record { outcome = outcome_of 0 sum; rounds = rounds; pairs = pair_flows (pair_rows cells o) }
+by_settling (Unsettled sum) rounds cells o = undecided (outcome_of 15 sum)
 
-unfoldable pub settledTo : Counts → Balance → Decision
-settledTo o b = bySettling b.settling b.rounds b.cells o
+unfoldable pub settled_to : Counts → Balance → Decision
+settled_to o b = by_settling b.settling b.rounds b.cells o
 
 abbrev pub decided : Counts → Or Balance → Decision
-decided o (refused number) = undecided (outcomeOf number zero64)
-decided o (ok b) = settledTo o b
+decided o (refused number) = undecided (outcome_of number zero64)
+decided o (ok b) = settled_to o b
 
-unfoldable pub decisionOf : Counts → Counts → Seeds → Decision
-decisionOf o exits seeds =
+unfoldable pub decision_of : Counts → Counts → Seeds → Decision
+decision_of o exits seeds =
     decided o
-    (need 13 (not (noVolume o exits))
-    (need 14 (not (anyUnservedEntry o exits seeds || anyUnservedExit o exits seeds))
+    (need 13 (not (no_volume o exits))
+    (need 14 (not (any_unserved_entry o exits seeds || any_unserved_exit o exits seeds))
     (ok (balanced o exits seeds))))

@@ -6,20 +6,20 @@ use native.Mathlib.Omega.{arith}
 use Rattle.refusal.specs.Refusal.{ok, need}
 use Rattle.movements.specs.declared.Counts.{Counts}
 use Rattle.movements.specs.declared.Seeds.{Seeds}
-use Rattle.movements.specs.Movements.{flowUnits}
+use Rattle.movements.specs.Movements.{flow_units}
 use Rattle.balance_flows.specs.declared.FlowTable.{FlowTable}
 use Rattle.balance.specs.declared.Settling.{Settling}
 use Rattle.balance.specs.declared.Settling.TheVariants as settling
 use Rattle.balance.specs.declared.Balance.{Balance}
-use Rattle.balance.specs.Settling.{roundLimit, balanced}
-use Rattle.balance.specs.Ending.{balanced-rounds}
+use Rattle.balance.specs.Settling.{round_limit, balanced}
+use Rattle.balance.specs.Ending.{balanced_rounds}
 use Rattle.lists.specs.Lists.{sum}
-use Rattle.balance_pairs.specs.Pairs.{pairRows, rows-add}
-use Rattle.balance_refusals.specs.Refusals.{noVolume, anyUnservedEntry, anyUnservedExit}
+use Rattle.balance_pairs.specs.Pairs.{pair_rows, rows_add}
+use Rattle.balance_refusals.specs.Refusals.{no_volume, any_unserved_entry, any_unserved_exit}
 use Rattle.balance_decision.specs.declared.Outcome.TheVariants.{Worked}
 use Rattle.balance_decision.specs.declared.Decision.{Decision}
-use Rattle.balance_decision.specs.Outcome.{refusalOf}
-use Rattle.balance_decision.specs.Decision.{bySettling, settledTo, decided, decisionOf}
+use Rattle.balance_decision.specs.Outcome.{refusal_of}
+use Rattle.balance_decision.specs.Decision.{by_settling, settled_to, decided, decision_of}
 
 module _ (o : Counts) where
   -- worked, with pair flows that come from cells
@@ -27,55 +27,55 @@ module _ (o : Counts) where
     pub sum : Float
     pub worked : d.outcome ≡ Worked sum
     pub cells : FlowTable
-    pub rows : d.pairs.rows ≡ pairRows cells o
+    pub rows : d.pairs.rows ≡ pair_rows cells o
 
-  by-settling : (k : Settling) (n : ℕ) (c : FlowTable) → refusalOf (bySettling k n c o).outcome ≡ 0 → FromCells (bySettling k n c o)
-  by-settling (settling.Settled x) n c e = record { sum = x; worked = refl; cells = c; rows = refl }
-  by-settling (settling.Unsettled x) n c e = absurd (omega arith)
+  by_settling_lem : (k : Settling) (n : ℕ) (c : FlowTable) → refusal_of (by_settling k n c o).outcome ≡ 0 → FromCells (by_settling k n c o)
+  by_settling_lem (settling.Settled x) n c e = record { sum = x; worked = refl; cells = c; rows = refl }
+  by_settling_lem (settling.Unsettled x) n c e = absurd (omega arith)
 
-  by_tests : (t u : Bool) (b : Balance) → let d = decided o (need 13 t (need 14 u (ok b))) in refusalOf d.outcome ≡ 0 → FromCells d
-  unfolding need settledTo
+  by_tests : (t u : Bool) (b : Balance) → let d = decided o (need 13 t (need 14 u (ok b))) in refusal_of d.outcome ≡ 0 → FromCells d
+  unfolding need settled_to
   by_tests false u b e = absurd (omega arith)
   by_tests true false b e = absurd (omega arith)
-  by_tests true true b e = by-settling b.settling b.rounds b.cells e
+  by_tests true true b e = by_settling_lem b.settling b.rounds b.cells e
 
-  pub from-cells : (exits : Counts) (s : Seeds) → refusalOf (decisionOf o exits s).outcome ≡ 0 → FromCells (decisionOf o exits s)
-  unfolding decisionOf
-  from-cells exits s = by_tests (not (noVolume o exits)) (not (anyUnservedEntry o exits s || anyUnservedExit o exits s)) (balanced o exits s)
+  pub from_cells : (exits : Counts) (s : Seeds) → refusal_of (decision_of o exits s).outcome ≡ 0 → FromCells (decision_of o exits s)
+  unfolding decision_of
+  from_cells exits s = by_tests (not (no_volume o exits)) (not (any_unserved_entry o exits s || any_unserved_exit o exits s)) (balanced o exits s)
 
   -- so each entry's row adds to 1000·O
-  pub shared-adds : (exits : Counts) (s : Seeds) → refusalOf (decisionOf o exits s).outcome ≡ 0 →
-      map sum (decisionOf o exits s).pairs.rows ≡ map flowUnits (o.left ∷ o.through ∷ o.right ∷ o.access ∷ [])
-  shared-adds exits s e = let f = from-cells exits s e in rw f.rows (rows-add f.cells o)
+  pub shared_adds : (exits : Counts) (s : Seeds) → refusal_of (decision_of o exits s).outcome ≡ 0 →
+      map sum (decision_of o exits s).pairs.rows ≡ map flow_units (o.left ∷ o.through ∷ o.right ∷ o.access ∷ [])
+  shared_adds exits s e = let f = from_cells exits s e in rw f.rows (rows_add f.cells o)
 
   -- the number is 0, 13, 14 or 15
-  number-by-settling : (k : Settling) (n : ℕ) (c : FlowTable) → refusalOf (bySettling k n c o).outcome ≤ 15
-  number-by-settling (settling.Settled x) n c = omega arith
-  number-by-settling (settling.Unsettled x) n c = omega arith
+  number_by_settling : (k : Settling) (n : ℕ) (c : FlowTable) → refusal_of (by_settling k n c o).outcome ≤ 15
+  number_by_settling (settling.Settled x) n c = omega arith
+  number_by_settling (settling.Unsettled x) n c = omega arith
 
-  number-by-tests : (t u : Bool) (b : Balance) → refusalOf (decided o (need 13 t (need 14 u (ok b)))).outcome ≤ 15
-  unfolding need settledTo
-  number-by-tests false u b = omega arith
-  number-by-tests true false b = omega arith
-  number-by-tests true true b = number-by-settling b.settling b.rounds b.cells
+  number_by_tests : (t u : Bool) (b : Balance) → refusal_of (decided o (need 13 t (need 14 u (ok b)))).outcome ≤ 15
+  unfolding need settled_to
+  number_by_tests false u b = omega arith
+  number_by_tests true false b = omega arith
+  number_by_tests true true b = number_by_settling b.settling b.rounds b.cells
 
-  pub decision-number : (exits : Counts) (s : Seeds) → refusalOf (decisionOf o exits s).outcome ≤ 15
-  unfolding decisionOf
-  decision-number exits s =
-      number-by-tests (not (noVolume o exits)) (not (anyUnservedEntry o exits s || anyUnservedExit o exits s)) (balanced o exits s)
+  pub decision_number : (exits : Counts) (s : Seeds) → refusal_of (decision_of o exits s).outcome ≤ 15
+  unfolding decision_of
+  decision_number exits s =
+      number_by_tests (not (no_volume o exits)) (not (any_unserved_entry o exits s || any_unserved_exit o exits s)) (balanced o exits s)
 
   -- ---- the rounds of a decision, none of one that is refused
 
-  settling-rounds : (k : Settling) {n : ℕ} (c : FlowTable) → n ≤ roundLimit → (bySettling k n c o).rounds ≤ roundLimit
-  settling-rounds (settling.Settled x) c h = h
-  settling-rounds (settling.Unsettled x) c h = omega arith
+  settling_rounds : (k : Settling) {n : ℕ} (c : FlowTable) → n ≤ round_limit → (by_settling k n c o).rounds ≤ round_limit
+  settling_rounds (settling.Settled x) c h = h
+  settling_rounds (settling.Unsettled x) c h = omega arith
 
-  tests-rounds : (t u : Bool) (b : Balance) → b.rounds ≤ roundLimit → (decided o (need 13 t (need 14 u (ok b)))).rounds ≤ roundLimit
-  unfolding need settledTo
-  tests-rounds false u b h = omega arith
-  tests-rounds true false b h = omega arith
-  tests-rounds true true b h = settling-rounds b.settling b.cells h
+  tests_rounds : (t u : Bool) (b : Balance) → b.rounds ≤ round_limit → (decided o (need 13 t (need 14 u (ok b)))).rounds ≤ round_limit
+  unfolding need settled_to
+  tests_rounds false u b h = omega arith
+  tests_rounds true false b h = omega arith
+  tests_rounds true true b h = settling_rounds b.settling b.cells h
 
-  pub decision-rounds : (exits : Counts) (s : Seeds) → (decisionOf o exits s).rounds ≤ roundLimit
-  unfolding decisionOf
-  decision-rounds exits s = tests-rounds _ _ (balanced o exits s) (balanced-rounds o exits s)
+  pub decision_rounds : (exits : Counts) (s : Seeds) → (decision_of o exits s).rounds ≤ round_limit
+  unfolding decision_of
+  decision_rounds exits s = tests_rounds _ _ (balanced o exits s) (balanced_rounds o exits s)

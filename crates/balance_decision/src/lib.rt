@@ -2,8 +2,8 @@
 // A lower layer's crate: its functions ask that no entry discharges more than 6000 veh/h.
 ghost use Rattle.std.specs.Prelude.{◌≡◌};
 ghost use Rattle.balance_pairs.specs.Pairs.{WithinLimit};
-ghost use Rattle.balance_decision.specs.Outcome.{lastSumOf, refusalOf};
-ghost use Rattle.balance_decision.specs.Decision.{decisionOf, settledTo, undecided};
+ghost use Rattle.balance_decision.specs.Outcome.{last_sum_of, refusal_of};
+ghost use Rattle.balance_decision.specs.Decision.{decision_of, settled_to, undecided};
 
 use balance::{Balance, Settling};
 use movements::{Counts, Seeds};
@@ -27,7 +27,7 @@ pub struct Decision {
 
 // The paper's number, 0 where worked.
 pub fn refusal_of(outcome: Outcome) -> u32
-    ensures { result ≡ refusalOf outcome }
+    ensures { result ≡ refusal_of outcome }
 {
     match outcome {
         Outcome::Worked(_) => 0,
@@ -38,7 +38,7 @@ pub fn refusal_of(outcome: Outcome) -> u32
 
 // 0 where the outcome tells none.
 pub fn last_sum_of(outcome: Outcome) -> f64
-    ensures { result ≡ lastSumOf outcome }
+    ensures { result ≡ last_sum_of outcome }
 {
     match outcome {
         Outcome::Worked(sum) => sum,
@@ -59,7 +59,7 @@ fn undecided(outcome: Outcome) -> Decision
 
 fn settled_to(o: Counts, b: Balance) -> Decision
     requires { WithinLimit o }
-    ensures { result ≡ settledTo o b }
+    ensures { result ≡ settled_to o b }
 {
     let settling = b.settling;
     match settling {
@@ -75,7 +75,7 @@ fn settled_to(o: Counts, b: Balance) -> Decision
 // The refusals in their order, then the settling and its pair flows.
 pub fn decide(o: Counts, exits: Counts, seeds: Seeds) -> Decision
     requires { WithinLimit o }
-    ensures { result ≡ decisionOf o exits seeds }
+    ensures { result ≡ decision_of o exits seeds }
 {
     let empty = balance_refusals::no_volume(o, exits);
     let unserved = balance_refusals::any_unserved_entry(o, exits, seeds)

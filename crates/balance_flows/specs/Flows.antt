@@ -19,20 +19,20 @@ abbrev pub over : Float → Float → Float
 over x y = div binary64 x y
 
 -- none of the four is an infinity or a NaN
-unfoldable pub allFinite : Flows → Bool
-allFinite x = ((finite x.left && finite x.through) && finite x.right) && finite x.access
+unfoldable pub all_finite : Flows → Bool
+all_finite x = ((finite x.left && finite x.through) && finite x.right) && finite x.access
 
-unfoldable pub tableFinite : FlowTable → Bool
-tableFinite x = ((allFinite x.left && allFinite x.through) && allFinite x.right) && allFinite x.access
+unfoldable pub table_finite : FlowTable → Bool
+table_finite x = ((all_finite x.left && all_finite x.through) && all_finite x.right) && all_finite x.access
 
-abbrev pub flowsOf : Float → Float → Float → Float → Flows
-flowsOf l t r a = record { left = l; through = t; right = r; access = a }
+abbrev pub flows_of : Float → Float → Float → Float → Flows
+flows_of l t r a = record { left = l; through = t; right = r; access = a }
 
-abbrev pub noFlows : Flows
-noFlows = flowsOf zero64 zero64 zero64 zero64
+abbrev pub no_flows : Flows
+no_flows = flows_of zero64 zero64 zero64 zero64
 
-abbrev pub noTable : FlowTable
-noTable = record { left = noFlows; through = noFlows; right = noFlows; access = noFlows }
+abbrev pub no_table : FlowTable
+no_table = record { left = no_flows; through = no_flows; right = no_flows; access = no_flows }
 
 -- the sum of the four
 abbrev pub total : Flows → Float
@@ -40,11 +40,11 @@ total x = plus (plus (plus x.left x.through) x.right) x.access
 
 -- the sum of the four products
 abbrev pub weighted : Flows → Flows → Float
-weighted x y = total (flowsOf (times x.left y.left) (times x.through y.through) (times x.right y.right) (times x.access y.access))
+weighted x y = total (flows_of (times x.left y.left) (times x.through y.through) (times x.right y.right) (times x.access y.access))
 
 -- n over m, or 0 where n is 0
 abbrev pub quotient : Float → Float → Float
 quotient n m = cond (eq n zero64) zero64 (over n m)
 
 unfoldable pub quotients : Flows → Flows → Flows
-quotients n m = flowsOf (quotient n.left m.left) (quotient n.through m.through) (quotient n.right m.right) (quotient n.access m.access)
+quotients n m = flows_of (quotient n.left m.left) (quotient n.through m.through) (quotient n.right m.right) (quotient n.access m.access)

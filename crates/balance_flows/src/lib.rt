@@ -2,7 +2,7 @@
 // Every operation rounds once, and sums run in that order.
 ghost use Rattle.std.specs.Prelude.{◌≡◌};
 ghost use Rattle.std.specs.Float.Ieee.Scale.{finite};
-ghost use Rattle.balance_flows.specs.Flows.{allFinite, tableFinite, total, quotient, quotients};
+ghost use Rattle.balance_flows.specs.Flows.{all_finite, table_finite, total, quotient, quotients};
 
 // One figure for each movement: the paper's record of floats.
 #[derive(Drop)]
@@ -30,13 +30,13 @@ pub fn is_finite(x: f64) -> bool
 }
 
 pub fn all_finite(x: Flows) -> bool
-    ensures { result ≡ allFinite x }
+    ensures { result ≡ all_finite x }
 {
     is_finite(x.left) & is_finite(x.through) & is_finite(x.right) & is_finite(x.access)
 }
 
 pub fn table_finite(x: FlowTable) -> bool
-    ensures { result ≡ tableFinite x }
+    ensures { result ≡ table_finite x }
 {
     all_finite(x.left) & all_finite(x.through) & all_finite(x.right) & all_finite(x.access)
 }

@@ -21,11 +21,11 @@ cast (fin false m e) left h = sym (cap (m * up e / down e) left h)
 
 -- the cast's result k, or the cap
 module _ (x : Float) (left : ℕ) (h : left < 2 ^ 64) {k : ℕ} (e : k ≡ to_unsigned 64 x) where
-  pub cast-below : k < left → k ≡ limited x left
-  cast-below l = rw (cast x left h, ← e) (omega arith)
+  pub cast_below : k < left → k ≡ limited x left
+  cast_below l = rw (cast x left h, ← e) (omega arith)
 
-  pub cast-above : left ≤ k → left ≡ limited x left
-  cast-above l = rw (cast x left h, ← e) (omega arith)
+  pub cast_above : left ≤ k → left ≡ limited x left
+  cast_above l = rw (cast x left h, ← e) (omega arith)
 
 pub above : (x : Float) (left : ℕ) → left < 2 ^ 64 → lt (fin true 1 (pos 0)) x ≡ true → lt x (fin false 1 (pos 64)) ≡ false → left ≡ limited x left
 unfolding limited lt

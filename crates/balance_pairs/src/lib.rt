@@ -1,14 +1,14 @@
 // The pair flows of each entry: what its discharge sends to each exit.
 // A lower layer's crate: `pair_rows` asks that no entry discharges more than 6000 veh/h.
 ghost use Rattle.std.specs.Prelude.{◌≡◌, ◌≤◌};
-ghost use Rattle.balance_pairs.specs.Pairs.{WithinLimit, cellUnits, pairRow, pairRows};
+ghost use Rattle.balance_pairs.specs.Pairs.{WithinLimit, cell_units, pair_row, pair_rows};
 
 use balance_flows::{FlowTable, Flows};
 use movements::Counts;
 
 // The whole part of cell·1000, or what is left of the row if that is less.
 fn cell_units(cell: f64, left: u32) -> u32
-    ensures { (result ≡ cellUnits cell left) × (result ≤ left) }
+    ensures { (result ≡ cell_units cell left) × (result ≤ left) }
 {
     let x = cell * 1000.0;
     if x > -1.0 {
@@ -25,7 +25,7 @@ fn cell_units(cell: f64, left: u32) -> u32
 }
 
 fn pair_row(cells: Flows, all: u32) -> [u32; 4]
-    ensures { result ≡ pairRow cells all }
+    ensures { result ≡ pair_row cells all }
 {
     let left = cell_units(cells.left, all);
     let after_left = all - left;
@@ -38,7 +38,7 @@ fn pair_row(cells: Flows, all: u32) -> [u32; 4]
 // Filled row by row.
 pub fn pair_rows(cells: FlowTable, o: Counts) -> [[u32; 4]; 4]
     requires { WithinLimit o }
-    ensures { result ≡ pairRows cells o }
+    ensures { result ≡ pair_rows cells o }
 {
     let mut rows = [[0u32; 4]; 4];
     rows[0] = pair_row(cells.left, movements::flow_units(o.left));

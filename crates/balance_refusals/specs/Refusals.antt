@@ -3,12 +3,12 @@ use Rattle.std.specs.Prelude.{ℕ, ◌+◌, Bool, ◌&&◌, ◌||◌, not, ltb, 
 use Rattle.movements.specs.declared.Counts.{Counts}
 use Rattle.movements.specs.declared.Seeds.{Seeds}
 
-abbrev pub countsTotal : Counts → ℕ
-countsTotal x = x.left + x.through + x.right + x.access
+abbrev pub counts_total : Counts → ℕ
+counts_total x = x.left + x.through + x.right + x.access
 
 -- 13: total discharge or total exit volume 0
-unfoldable pub noVolume : Counts → Counts → Bool
-noVolume o exits = eqb (countsTotal o) 0 || eqb (countsTotal exits) 0
+unfoldable pub no_volume : Counts → Counts → Bool
+no_volume o exits = eqb (counts_total o) 0 || eqb (counts_total exits) 0
 
 -- both above 0 for some movement
 unfoldable pub meets : Counts → Counts → Bool
@@ -17,24 +17,24 @@ meets x y =
     || (ltb 0 x.access && ltb 0 y.access)
 
 -- 14: an entry with discharge that has no exit with volume and non-zero seed ("stranded" in the papers)
-unfoldable pub unservedEntry : Counts → ℕ → Counts → Bool
-unservedEntry exits o seeds = ltb 0 o && not (meets exits seeds)
+unfoldable pub unserved_entry : Counts → ℕ → Counts → Bool
+unserved_entry exits o seeds = ltb 0 o && not (meets exits seeds)
 
 -- 14: an exit with volume that has no entry with discharge and non-zero seed
-unfoldable pub unservedExit : Counts → ℕ → Counts → Bool
-unservedExit o exit seeds = ltb 0 exit && not (meets o seeds)
+unfoldable pub unserved_exit : Counts → ℕ → Counts → Bool
+unserved_exit o exit seeds = ltb 0 exit && not (meets o seeds)
 
-unfoldable pub anyUnservedEntry : Counts → Counts → Seeds → Bool
-anyUnservedEntry o exits s =
-    ((unservedEntry exits o.left s.left || unservedEntry exits o.through s.through) || unservedEntry exits o.right s.right)
-    || unservedEntry exits o.access s.access
+unfoldable pub any_unserved_entry : Counts → Counts → Seeds → Bool
+any_unserved_entry o exits s =
+    ((unserved_entry exits o.left s.left || unserved_entry exits o.through s.through) || unserved_entry exits o.right s.right)
+    || unserved_entry exits o.access s.access
 
 -- one exit's seeds, by entry
-abbrev pub exitSeeds : (Counts → ℕ) → Seeds → Counts
-exitSeeds exit s = record { left = exit s.left; through = exit s.through; right = exit s.right; access = exit s.access }
+abbrev pub exit_seeds : (Counts → ℕ) → Seeds → Counts
+exit_seeds exit s = record { left = exit s.left; through = exit s.through; right = exit s.right; access = exit s.access }
 
-unfoldable pub anyUnservedExit : Counts → Counts → Seeds → Bool
-anyUnservedExit o exits s =
-    ((unservedExit o exits.left (exitSeeds (λ row. row.left) s) || unservedExit o exits.through (exitSeeds (λ row. row.through) s))
-    || unservedExit o exits.right (exitSeeds (λ row. row.right) s))
-    || unservedExit o exits.access (exitSeeds (λ row. row.access) s)
+unfoldable pub any_unserved_exit : Counts → Counts → Seeds → Bool
+any_unserved_exit o exits s =
+    ((unserved_exit o exits.left (exit_seeds (λ row. row.left) s) || unserved_exit o exits.through (exit_seeds (λ row. row.through) s))
+    || unserved_exit o exits.right (exit_seeds (λ row. row.right) s))
+    || unserved_exit o exits.access (exit_seeds (λ row. row.access) s)

@@ -1,6 +1,6 @@
 // Whether the volumes can be balanced at all, by whole numbers alone.
 ghost use Rattle.std.specs.Prelude.{◌≡◌, ◌≤◌};
-ghost use Rattle.balance_refusals.specs.Refusals.{countsTotal, noVolume, meets, unservedEntry, unservedExit, anyUnservedEntry, anyUnservedExit};
+ghost use Rattle.balance_refusals.specs.Refusals.{counts_total, no_volume, meets, unserved_entry, unserved_exit, any_unserved_entry, any_unserved_exit};
 
 use movements::{Counts, Seeds};
 
@@ -11,13 +11,13 @@ fn wide(n: u32) -> u64
 }
 
 fn total(x: Counts) -> u64
-    ensures { result ≡ countsTotal x }
+    ensures { result ≡ counts_total x }
 {
     wide(x.left) + wide(x.through) + wide(x.right) + wide(x.access)
 }
 
 pub fn no_volume(o: Counts, exits: Counts) -> bool
-    ensures { result ≡ noVolume o exits }
+    ensures { result ≡ no_volume o exits }
 {
     (total(o) == 0) | (total(exits) == 0)
 }
@@ -32,13 +32,13 @@ fn meets(x: Counts, y: Counts) -> bool
 }
 
 fn unserved_entry(exits: Counts, o: u32, seeds: Counts) -> bool
-    ensures { result ≡ unservedEntry exits o seeds }
+    ensures { result ≡ unserved_entry exits o seeds }
 {
     (0 < o) & !meets(exits, seeds)
 }
 
 fn unserved_exit(o: Counts, exit: u32, left: u32, through: u32, right: u32, access: u32) -> bool
-    ensures { result ≡ unservedExit o exit (record { left = left; through = through; right = right; access = access }) }
+    ensures { result ≡ unserved_exit o exit (record { left = left; through = through; right = right; access = access }) }
 {
     let seeds = Counts {
         left,
@@ -50,7 +50,7 @@ fn unserved_exit(o: Counts, exit: u32, left: u32, through: u32, right: u32, acce
 }
 
 pub fn any_unserved_entry(o: Counts, exits: Counts, s: Seeds) -> bool
-    ensures { result ≡ anyUnservedEntry o exits s }
+    ensures { result ≡ any_unserved_entry o exits s }
 {
     unserved_entry(exits, o.left, s.left)
         | unserved_entry(exits, o.through, s.through)
@@ -59,7 +59,7 @@ pub fn any_unserved_entry(o: Counts, exits: Counts, s: Seeds) -> bool
 }
 
 pub fn any_unserved_exit(o: Counts, exits: Counts, s: Seeds) -> bool
-    ensures { result ≡ anyUnservedExit o exits s }
+    ensures { result ≡ any_unserved_exit o exits s }
 {
     let l = s.left;
     let t = s.through;

@@ -1,7 +1,7 @@
 // One round of balancing, equations 30-4 to 30-7. Destinations are the exits, origins the entries.
 ghost use Rattle.std.specs.Prelude.{◌≡◌};
-ghost use Rattle.balance_flows.specs.Flows.{flowsOf, weighted};
-ghost use Rattle.balance_round.specs.Round.{destinations, factorsOf, difference, change, noQuotient, anyNoQuotient, roundOf, stops};
+ghost use Rattle.balance_flows.specs.Flows.{flows_of, weighted};
+ghost use Rattle.balance_round.specs.Round.{destinations, factors_of, difference, change, no_quotient, any_no_quotient, round_of, stops};
 
 use balance_flows::{FlowTable, Flows};
 
@@ -18,7 +18,7 @@ pub struct Round {
 
 // Equation 30-4 for one exit, from its seeds by entry.
 fn destination(o: Flows, left: f64, through: f64, right: f64, access: f64) -> f64
-    ensures { result ≡ weighted o (flowsOf left through right access) }
+    ensures { result ≡ weighted o (flows_of left through right access) }
 {
     o.left * left + o.through * through + o.right * right + o.access * access
 }
@@ -60,7 +60,7 @@ fn factor(b: Flows, p: Flows) -> f64
 }
 
 fn factors_of(b: Flows, p: FlowTable) -> Flows
-    ensures { result ≡ factorsOf b p }
+    ensures { result ≡ factors_of b p }
 {
     Flows {
         left: factor(b, p.left),
@@ -87,13 +87,13 @@ fn change_of(new: Flows, old: Flows) -> f64
 }
 
 fn no_quotient(n: f64, m: f64) -> bool
-    ensures { result ≡ noQuotient n m }
+    ensures { result ≡ no_quotient n m }
 {
     (0.0 < n) & (m == 0.0)
 }
 
 fn any_no_quotient(n: Flows, m: Flows) -> bool
-    ensures { result ≡ anyNoQuotient n m }
+    ensures { result ≡ any_no_quotient n m }
 {
     no_quotient(n.left, m.left)
         | no_quotient(n.through, m.through)
@@ -103,7 +103,7 @@ fn any_no_quotient(n: Flows, m: Flows) -> bool
 
 // The round that starts from the adjusted origins `old`.
 pub fn round_of(o: Flows, d: Flows, p: FlowTable, old: Flows) -> Round
-    ensures { result ≡ roundOf o d p old }
+    ensures { result ≡ round_of o d p old }
 {
     let destinations = destinations_of(old, p);
     let ratios = balance_flows::quotients(d, destinations);

@@ -6,47 +6,47 @@ use Rattle.movements.specs.declared.Counts.{Counts}
 use Rattle.movements.specs.declared.Seeds.{Seeds}
 use Rattle.balance_flows.specs.declared.Flows.{Flows}
 use Rattle.balance_flows.specs.declared.FlowTable.{FlowTable}
-use Rattle.balance_flows.specs.Flows.{times, over, flowsOf, total}
+use Rattle.balance_flows.specs.Flows.{times, over, flows_of, total}
 
 -- O as a float; an exit volume as a float
-abbrev pub dischargeFloat : ℕ → Float
-dischargeFloat n = of_int binary64 (pos n)
+abbrev pub discharge_float : ℕ → Float
+discharge_float n = of_int binary64 (pos n)
 
-abbrev pub exitFloat : ℕ → Float
-exitFloat n = of_int binary64 (pos n)
+abbrev pub exit_float : ℕ → Float
+exit_float n = of_int binary64 (pos n)
 
 abbrev pub hundred : Float
 hundred = of_bits binary64 0x4059_0000_0000_0000
 
-pub hundred-is : hundred ≡ of_int binary64 (pos 100)
+pub hundred_is : hundred ≡ of_int binary64 (pos 100)
 unfolding of_bits of_int
-hundred-is = refl
+hundred_is = refl
 
 -- p of a seed
 abbrev pub proportion : ℕ → Float
 proportion hundredths = over (of_int binary64 (pos hundredths)) hundred
 
-unfoldable pub dischargeFloats : Counts → Flows
-dischargeFloats x = flowsOf (dischargeFloat x.left) (dischargeFloat x.through) (dischargeFloat x.right) (dischargeFloat x.access)
+unfoldable pub discharge_floats : Counts → Flows
+discharge_floats x = flows_of (discharge_float x.left) (discharge_float x.through) (discharge_float x.right) (discharge_float x.access)
 
-unfoldable pub exitFloats : Counts → Flows
-exitFloats x = flowsOf (exitFloat x.left) (exitFloat x.through) (exitFloat x.right) (exitFloat x.access)
+unfoldable pub exit_floats : Counts → Flows
+exit_floats x = flows_of (exit_float x.left) (exit_float x.through) (exit_float x.right) (exit_float x.access)
 
-unfoldable pub proportionRow : Counts → Flows
-proportionRow x = flowsOf (proportion x.left) (proportion x.through) (proportion x.right) (proportion x.access)
+unfoldable pub proportion_row : Counts → Flows
+proportion_row x = flows_of (proportion x.left) (proportion x.through) (proportion x.right) (proportion x.access)
 
 unfoldable pub proportions : Seeds → FlowTable
 proportions x =
-    record { left = proportionRow x.left; through = proportionRow x.through; right = proportionRow x.right; access = proportionRow x.access }
+    record { left = proportion_row x.left; through = proportion_row x.through; right = proportion_row x.right; access = proportion_row x.access }
 
 -- D = (exit volume · total discharge) / total exit volume
-abbrev pub destinationVolume : Float → Float → Float → Float
-destinationVolume exit discharge exits = over (times exit discharge) exits
+abbrev pub destination_volume : Float → Float → Float → Float
+destination_volume exit discharge exits = over (times exit discharge) exits
 
-unfoldable pub destinationVolumes : Flows → Flows → Flows
-destinationVolumes o exits =
-    flowsOf
-    (destinationVolume exits.left (total o) (total exits))
-    (destinationVolume exits.through (total o) (total exits))
-    (destinationVolume exits.right (total o) (total exits))
-    (destinationVolume exits.access (total o) (total exits))
+unfoldable pub destination_volumes : Flows → Flows → Flows
+destination_volumes o exits =
+    flows_of
+    (destination_volume exits.left (total o) (total exits))
+    (destination_volume exits.through (total o) (total exits))
+    (destination_volume exits.right (total o) (total exits))
+    (destination_volume exits.access (total o) (total exits))

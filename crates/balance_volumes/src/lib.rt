@@ -1,19 +1,19 @@
 // Whole volumes and seeds as 64-bit floats, and the exits' volumes adjusted to what is discharged.
 ghost use Rattle.std.specs.Prelude.{◌≡◌};
-ghost use Rattle.balance_volumes.specs.Volumes.{dischargeFloat, exitFloat, proportion, destinationVolume};
-ghost use Rattle.balance_volumes.specs.Volumes.{dischargeFloats, exitFloats, proportionRow, proportions, destinationVolumes};
+ghost use Rattle.balance_volumes.specs.Volumes.{discharge_float, exit_float, proportion, destination_volume};
+ghost use Rattle.balance_volumes.specs.Volumes.{discharge_floats, exit_floats, proportion_row, proportions, destination_volumes};
 
 use balance_flows::{FlowTable, Flows};
 use movements::{Counts, Seeds};
 
 fn discharge_float(n: u32) -> f64
-    ensures { result ≡ dischargeFloat n }
+    ensures { result ≡ discharge_float n }
 {
     n as f64
 }
 
 pub fn discharge_floats(x: Counts) -> Flows
-    ensures { result ≡ dischargeFloats x }
+    ensures { result ≡ discharge_floats x }
 {
     Flows {
         left: discharge_float(x.left),
@@ -24,13 +24,13 @@ pub fn discharge_floats(x: Counts) -> Flows
 }
 
 fn exit_float(n: u32) -> f64
-    ensures { result ≡ exitFloat n }
+    ensures { result ≡ exit_float n }
 {
     n as f64
 }
 
 pub fn exit_floats(x: Counts) -> Flows
-    ensures { result ≡ exitFloats x }
+    ensures { result ≡ exit_floats x }
 {
     Flows {
         left: exit_float(x.left),
@@ -47,7 +47,7 @@ fn proportion(hundredths: u32) -> f64
 }
 
 fn proportion_row(x: Counts) -> Flows
-    ensures { result ≡ proportionRow x }
+    ensures { result ≡ proportion_row x }
 {
     Flows {
         left: proportion(x.left),
@@ -69,13 +69,13 @@ pub fn proportions(x: Seeds) -> FlowTable
 }
 
 fn destination_volume(exit: f64, discharge: f64, exits: f64) -> f64
-    ensures { result ≡ destinationVolume exit discharge exits }
+    ensures { result ≡ destination_volume exit discharge exits }
 {
     exit * discharge / exits
 }
 
 pub fn destination_volumes(o: Flows, exits: Flows) -> Flows
-    ensures { result ≡ destinationVolumes o exits }
+    ensures { result ≡ destination_volumes o exits }
 {
     let discharge = balance_flows::total(o);
     let all = balance_flows::total(exits);

@@ -10,16 +10,16 @@ use lib.ListN.{length, take, drop, length-take, length-drop, take-append-drop, d
 use lib.Seq.{sets, length-sets, sets-eq, take_all}
 use borrow.Author.Tests.{leb-true, leb-false}
 use borrow.Rule.Slice.PartMut.{put_mid, Post-is}
-use Rattle.buffer.specs.Buffer.{put, nextPlace, Wrote}
-use Rattle.buffer.specs.Pieces.{sets-out, sets-append}
+use Rattle.buffer.specs.Buffer.{put, next_place, Wrote}
+use Rattle.buffer.specs.Pieces.{sets_out, sets_append}
 
-wrote : (b : List ℕ) (at : ℕ) (piece : List ℕ) {b' : List ℕ} {p : ℕ} → b' ≡ sets b at piece → p ≡ nextPlace b at piece → Wrote b at piece b' p
+wrote : (b : List ℕ) (at : ℕ) (piece : List ℕ) {b' : List ℕ} {p : ℕ} → b' ≡ sets b at piece → p ≡ next_place b at piece → Wrote b at piece b' p
 unfolding put
 wrote b at piece e f = record { is = rw (e, f) }
 
 pub past : (b : List ℕ) (at : ℕ) (piece : List ℕ) → length b < at → Wrote b at piece b at
-unfolding nextPlace
-past b at piece h = wrote _ _ _ (sym (sets-out b at piece (omega arith))) (omega arith)
+unfolding next_place
+past b at piece h = wrote _ _ _ (sym (sets_out b at piece (omega arith))) (omega arith)
 
 module _ (b : List ℕ) (at : ℕ) (piece : List ℕ) {n : ℕ} (start : at ≤ length b) (most : n ≡ min (length piece) (length b - at)) where
   taken : length (take n piece) ≡ n
@@ -29,11 +29,11 @@ module _ (b : List ℕ) (at : ℕ) (piece : List ℕ) {n : ℕ} (start : at ≤ 
   cut : sets b at piece ≡ sets b at (take n piece)
   cut =
       ap (λ (z : List ℕ). sets b at z) (sym (take-append-drop n piece))
-      ∙ sets-append b at (take n piece) (drop n piece) ∙ rw taken (go (leb (length piece) n) refl)
+      ∙ sets_append b at (take n piece) (drop n piece) ∙ rw taken (go (leb (length piece) n) refl)
     where
       go : (x : Bool) → leb (length piece) n ≡ x → sets (sets b at (take n piece)) (at + n) (drop n piece) ≡ sets b at (take n piece)
       go true e = rw (drop_of_length-le piece {i = n} (leb-true (length piece) n e))
-      go false e = sets-out _ (at + n) (drop n piece) (rw length-sets (omega (arith, leb-false (length piece) n e, most, start)))
+      go false e = sets_out _ (at + n) (drop n piece) (rw length-sets (omega (arith, leb-false (length piece) n e, most, start)))
 
   -- the part lent to the copy is as long as what is copied into it
   filled : take (length (take (n - 0) piece)) (take (n - 0) piece) ++ drop (length (take (n - 0) piece)) (take (at + n - at) (drop at b)) ≡ take n piece
@@ -44,7 +44,7 @@ module _ (b : List ℕ) (at : ℕ) (piece : List ℕ) {n : ℕ} (start : at ≤ 
   pub copied : {part : List ℕ}
       → part ≡ take (length (take (n - 0) piece)) (take (n - 0) piece) ++ drop (length (take (n - 0) piece)) (take (at + n - at) (drop at b))
       → Wrote b at piece (put_mid at (at + n - at) b part) (at + n)
-  unfolding nextPlace
+  unfolding next_place
   copied e =
       let fits : at + length (take n piece) ≤ length b = omega (arith, taken, most, start) in
       let same : put_mid at (at + n - at) b (take n piece) ≡ sets b at (take n piece) =

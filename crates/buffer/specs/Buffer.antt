@@ -11,12 +11,12 @@ abbrev pub cursor : List ℕ → ℕ → Cursor
 cursor b p = record { buffer = b; at = p }
 
 -- the next place: the end of the buffer at most; a place past the end stays
-unfoldable pub nextPlace : List ℕ → ℕ → List ℕ → ℕ
-nextPlace b at piece = max at (min (at + length piece) (length b))
+unfoldable pub next_place : List ℕ → ℕ → List ℕ → ℕ
+next_place b at piece = max at (min (at + length piece) (length b))
 
 -- the piece stored from the place on, as much of it as the buffer has room for, and the next place
 unfoldable pub put : Cursor → List ℕ → Cursor
-put c piece = record { buffer = sets c.buffer c.at piece; at = nextPlace c.buffer c.at piece }
+put c piece = record { buffer = sets c.buffer c.at piece; at = next_place c.buffer c.at piece }
 
 -- a call that puts a piece: the whole buffer afterwards and the place handed back
 pub record Wrote (b : List ℕ) (at : ℕ) (piece b' : List ℕ) (next : ℕ) : Type 0 where

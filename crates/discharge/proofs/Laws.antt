@@ -7,36 +7,36 @@ use borrow.Author.Tests.{leb-true}
 use Rattle.refusal.specs.Refusal.{ok}
 use Rattle.segment.specs.declared.Segment.{Segment}
 use Rattle.validation.specs.declared.Checked.TheVariants.{Refused, Valid}
-use Rattle.validation.specs.Validation.{checkedOf}
-use Rattle.validation.specs.Accepting.{checked_refused, checked-valid, accept-passed}
+use Rattle.validation.specs.Validation.{checked_of}
+use Rattle.validation.specs.Accepting.{checked_refused, checked_valid, accept_passed}
 use Rattle.ranges.specs.Ranges.{Ranges}
 use Rattle.movements.specs.declared.Counts.{Counts}
-use Rattle.metering.specs.Metering.{dischargeVolumes}
+use Rattle.metering.specs.Metering.{discharge_volumes}
 use Rattle.discharge.specs.declared.Discharged.{Discharged}
 use Rattle.discharge.specs.declared.Discharged.TheVariants as d
-use Rattle.entries.specs.Entries.{entryProfiles}
-use Rattle.discharge.specs.Discharge.{acceptOf, answer_of, Calls}
+use Rattle.entries.specs.Entries.{entry_profiles}
+use Rattle.discharge.specs.Discharge.{accept_of, answer_of, Calls}
 use Rattle.discharge.specs.Laws.{called}
 
 -- the three volumes
-pub all-answered : (s : Segment) {o : Counts} → o ≡ dischargeVolumes s → d.Volumes o.left o.through o.right ≡ answer_of (ok s)
-unfolding dischargeVolumes
-all-answered s e = rw e
+pub all_answered : (s : Segment) {o : Counts} → o ≡ discharge_volumes s → d.Volumes o.left o.through o.right ≡ answer_of (ok s)
+unfolding discharge_volumes
+all_answered s e = rw e
 
 -- the call from what it decided
 module _ (l p : List ℕ) where
-  pub refuses : (n : ℕ) → checkedOf (acceptOf l (length p)) ≡ Refused n → Calls l p (d.Refused n) p
+  pub refuses : (n : ℕ) → checked_of (accept_of l (length p)) ≡ Refused n → Calls l p (d.Refused n) p
   refuses n e =
-      let q = checked_refused (acceptOf l (length p)) n e in
+      let q = checked_refused (accept_of l (length p)) n e in
       called l p (d.Refused n) p (rw q) (rw q)
 
-  pub asks : (s : Segment) → checkedOf (acceptOf l (length p)) ≡ Valid s → Ranges s × (3 * s.cycle ≤ length p)
+  pub asks : (s : Segment) → checked_of (accept_of l (length p)) ≡ Valid s → Ranges s × (3 * s.cycle ≤ length p)
   asks s e =
-      let a = accept-passed l _ s (checked-valid (acceptOf l (length p)) s e) in
+      let a = accept_passed l _ s (checked_valid (accept_of l (length p)) s e) in
       (a.0.ranges, leb-true (3 * s.cycle) (length p) (a.1 16))
 
-  pub writes : (s : Segment) → checkedOf (acceptOf l (length p)) ≡ Valid s → (r : Discharged) (p' : List ℕ) → r ≡ answer_of (ok s) → p' ≡ entryProfiles s p →
+  pub writes : (s : Segment) → checked_of (accept_of l (length p)) ≡ Valid s → (r : Discharged) (p' : List ℕ) → r ≡ answer_of (ok s) → p' ≡ entry_profiles s p →
       Calls l p r p'
   writes s e r p' er ep =
-      let q = checked-valid (acceptOf l (length p)) s e in
+      let q = checked_valid (accept_of l (length p)) s e in
       called l p r p' (er ∙ rw q) (ep ∙ rw q)

@@ -3,26 +3,26 @@ use Rattle.std.specs.Prelude.{ℕ, ◌*◌, ◌≡◌, List, [], ◌∷◌, leb,
 use Rattle.runs.specs.Runs.{run_at}
 use Rattle.refusal.specs.Refusal.{Or, refused, ok, test}
 use Rattle.segment.specs.declared.Segment.{Segment}
-use Rattle.segment.specs.Segment.{segmentOf}
-use Rattle.validation.specs.Accepting.{acceptWith}
-use Rattle.metering.specs.Metering.{dischargeVolume}
-use Rattle.entries.specs.Entries.{entryProfiles, EntryDischarge}
+use Rattle.segment.specs.Segment.{segment_of}
+use Rattle.validation.specs.Accepting.{accept_with}
+use Rattle.metering.specs.Metering.{discharge_volume}
+use Rattle.entries.specs.Entries.{entry_profiles, EntryDischarge}
 use Rattle.discharge.specs.declared.Discharged.{Discharged}
 use Rattle.discharge.specs.declared.Discharged.TheVariants.{Refused, Volumes}
 
 -- the places record and lent profiles, and no other
-abbrev pub acceptOf : List ℕ → ℕ → Or Segment
-acceptOf l room = acceptWith l (λ s. test 16 (leb (3 * s.cycle) room) ∷ [])
+abbrev pub accept_of : List ℕ → ℕ → Or Segment
+accept_of l room = accept_with l (λ s. test 16 (leb (3 * s.cycle) room) ∷ [])
 
 -- the answer's cases: the paper's number, or the three discharge volumes
 abbrev pub answer_of : Or Segment → Discharged
 answer_of (refused n) = Refused n
-answer_of (ok s) = Volumes (dischargeVolume s.cycle s.left) (dischargeVolume s.cycle s.through) (dischargeVolume s.cycle s.right)
+answer_of (ok s) = Volumes (discharge_volume s.cycle s.left) (discharge_volume s.cycle s.through) (discharge_volume s.cycle s.right)
 
 -- the lent profile afterwards: three runs in order, or as it was where the call refuses
-abbrev pub profileAfter : Or Segment → List ℕ → List ℕ
-profileAfter (refused n) p = p
-profileAfter (ok s) p = entryProfiles s p
+abbrev pub profile_after : Or Segment → List ℕ → List ℕ
+profile_after (refused n) p = p
+profile_after (ok s) p = entry_profiles s p
 
 -- the three entries of a segment, read from the front of a profile, by their discharge volumes
 pub record EntriesDischarge (s : Segment) (o₁ o₂ o₃ : ℕ) (p : List ℕ) : Type 0 where
@@ -32,6 +32,6 @@ pub record EntriesDischarge (s : Segment) (o₁ o₂ o₃ : ℕ) (p : List ℕ) 
 
 -- what the call answers and leaves in the profile, and what every accepted record's entries discharge there
 pub record Calls (l p : List ℕ) (r : Discharged) (p' : List ℕ) : Type 0 where
-  pub answer : r ≡ answer_of (acceptOf l (length p))
-  pub profile : p' ≡ profileAfter (acceptOf l (length p)) p
-  pub entries : (left through right : ℕ) → r ≡ Volumes left through right → EntriesDischarge (segmentOf l) left through right p'
+  pub answer : r ≡ answer_of (accept_of l (length p))
+  pub profile : p' ≡ profile_after (accept_of l (length p)) p
+  pub entries : (left through right : ℕ) → r ≡ Volumes left through right → EntriesDischarge (segment_of l) left through right p'

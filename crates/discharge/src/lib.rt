@@ -2,9 +2,9 @@
 ghost use Rattle.std.specs.Prelude.{◌≡◌, ◌*◌, ◌≤◌, length};
 ghost use Rattle.refusal.specs.Refusal.{ok};
 ghost use Rattle.ranges.specs.Ranges.{Ranges};
-ghost use Rattle.validation.specs.Validation.{checkedOf};
-ghost use Rattle.entries.specs.Entries.{entryProfiles};
-ghost use Rattle.discharge.specs.Discharge.{Calls, acceptOf, answer_of};
+ghost use Rattle.validation.specs.Validation.{checked_of};
+ghost use Rattle.entries.specs.Entries.{entry_profiles};
+ghost use Rattle.discharge.specs.Discharge.{Calls, accept_of, answer_of};
 
 use segment::Segment;
 use validation::Checked;
@@ -18,7 +18,7 @@ pub enum Discharged {
 
 // Every refusal of the call, before anything is written.
 fn accept(bytes: &[u8], room: usize) -> Checked
-    ensures { result ≡ checkedOf (acceptOf bytes.now room) }
+    ensures { result ≡ checked_of (accept_of bytes.now room) }
 {
     let checked = validation::check(bytes);
     match checked {
@@ -35,7 +35,7 @@ fn accept(bytes: &[u8], room: usize) -> Checked
 fn write(s: Segment, profile: &mut [u32]) -> Discharged
     requires { Ranges s × (3 * s.cycle ≤ length profile.old) }
     ensures value { result ≡ answer_of (ok s) }
-    ensures profile_after { profile.new ≡ entryProfiles s profile.old }
+    ensures profile_after { profile.new ≡ entry_profiles s profile.old }
 {
     let o = metering::discharge_volumes(s);
     entries::fill_profiles(s, o, profile);

@@ -5,11 +5,11 @@ use mathlib.Core.Path.{◌≡◌, refl, ap, sym, ◌∙◌}
 use mathlib.Core.List.{List, ◌++◌}
 use lib.ListN.{length, drop}
 use Rattle.dispersion.specs.declared.PlatoonState.{PlatoonState}
-use Rattle.dispersion.specs.Dispersion.{divisor_of, emptyState, stateAfter, repeated, reported, held, cycleWritten}
-use Rattle.dispersion.specs.Arrivals.{divisor-pos, state-carry}
-use Rattle.dispersion.specs.Cycles.{end_of, end-next, cycle-held, held-beyond}
-use Rattle.dispersion.specs.Rest.{AtRest, neededOf, rest-same}
-use Rattle.dispersion.proofs.Needed.{Enough, next-needed}
+use Rattle.dispersion.specs.Dispersion.{divisor_of, empty_state, state_after, repeated, reported, held, cycle_written}
+use Rattle.dispersion.specs.Arrivals.{divisor_pos, state_carry}
+use Rattle.dispersion.specs.Cycles.{end_of, end_next, cycle_held, held_beyond}
+use Rattle.dispersion.specs.Rest.{AtRest, needed_of, rest_same}
+use Rattle.dispersion.proofs.Needed.{Enough, next_needed}
 
 -- k cycles are worked, the last of them stands in front, and the last that needs working is the last of all n
 pub record Lasting (running : ℕ) (q : List ℕ) (n : ℕ) (p₀ p : List ℕ) (s : PlatoonState) (needed k : ℕ) : Type 0 where
@@ -23,14 +23,14 @@ pub record Lasting (running : ℕ) (q : List ℕ) (n : ℕ) (p₀ p : List ℕ) 
   pub front : (j : ℕ) → suc j ≡ k → p ≡ held running q (suc j) p₀
   pub enough : reported running q needed ≡ reported running q n
 
-pub last-start : (running : ℕ) (q : List ℕ) (n : ℕ) (p : List ℕ) → 0 < n → Lasting running q n p p emptyState n 0
-unfolding repeated stateAfter
-last-start running q n p some =
+pub last_start : (running : ℕ) (q : List ℕ) (n : ℕ) (p : List ℕ) → 0 < n → Lasting running q n p p empty_state n 0
+unfolding repeated state_after
+last_start running q n p some =
     record {
       within = omega arith;
       no_more = omega arith;
       some = some;
-      carried = divisor-pos running;
+      carried = divisor_pos running;
       long = refl;
       state = refl;
       beyond = refl;
@@ -41,34 +41,34 @@ last-start running q n p some =
 -- ---- a turn: cycle k + 1 from s to t, and how many are needed then
 
 module _ {running : ℕ} {q : List ℕ} {n : ℕ} {p₀ p : List ℕ} {s : PlatoonState} {needed k : ℕ} (r : Lasting running q n p₀ p s needed k)
-    (more : k < needed) (t : PlatoonState) (needed' : ℕ) (e : t ≡ stateAfter running q s) (e' : needed' ≡ neededOf (k + 1) 0 needed s t) where
+    (more : k < needed) (t : PlatoonState) (needed' : ℕ) (e : t ≡ state_after running q s) (e' : needed' ≡ needed_of (k + 1) 0 needed s t) where
   rests : s ≡ t → AtRest running q (end_of running q k)
   rests same = rw (← r.state) (sym (same ∙ e))
 
   -- none more where it rests: the reported cycle stays the same
-  pub last-needed : Enough (reported running q) n needed k needed'
-  last-needed =
-      next-needed (reported running q) 0 more (omega arith) r.enough
+  pub last_needed : Enough (reported running q) n needed k needed'
+  last_needed =
+      next_needed (reported running q) 0 more (omega arith) r.enough
       (λ same less.
       (let one : k + 1 + 0 ≡ suc k = omega arith in
-      ap (reported running q) one ∙ rest-same running q k (rests same) needed (omega arith)))
+      ap (reported running q) one ∙ rest_same running q k (rests same) needed (omega arith)))
       e'
 
-  pub last_turn : (p' : List ℕ) → p' ≡ cycleWritten running q s p → length p' ≡ length p → Lasting running q n p₀ p' t needed' (k + 1)
+  pub last_turn : (p' : List ℕ) → p' ≡ cycle_written running q s p → length p' ≡ length p → Lasting running q n p₀ p' t needed' (k + 1)
   last_turn p' ep long =
       let next : k + 1 ≡ suc k = omega arith in
       let now : p' ≡ held running q (suc k) p₀ =
-      ep ∙ rw r.state (cycle-held running q k p) ∙ ap (λ (l : List ℕ). reported running q (suc k) ++ l) r.beyond in
+      ep ∙ rw r.state (cycle_held running q k p) ∙ ap (λ (l : List ℕ). reported running q (suc k) ++ l) r.beyond in
       record {
-        within = last-needed.some;
-        no_more = omega (arith, last-needed.fewer, r.no_more);
-        some = omega (arith, last-needed.some);
-        carried = rw e (state-carry running q s r.carried);
+        within = last_needed.some;
+        no_more = omega (arith, last_needed.fewer, r.no_more);
+        some = omega (arith, last_needed.some);
+        carried = rw e (state_carry running q s r.carried);
         long = long ∙ r.long;
-        state = e ∙ rw (r.state, next) (sym (end-next running q k));
-        beyond = ap (drop (length q)) now ∙ held-beyond running q k p₀;
+        state = e ∙ rw (r.state, next) (sym (end_next running q k));
+        beyond = ap (drop (length q)) now ∙ held_beyond running q k p₀;
         front = λ j h. (let same : j ≡ k = omega arith in rw same now);
-        enough = last-needed.enough;
+        enough = last_needed.enough;
       }
 
 -- at the end the last cycle stands in front

@@ -6,7 +6,7 @@ use mathlib.Core.Path.{◌≡◌, refl, ◌∙◌}
 use lib.Dec.{ltb}
 use borrow.Author.Tests.{ltb-true}
 use Rattle.dispersion.specs.declared.PlatoonState.{PlatoonState}
-use Rattle.dispersion.specs.Rest.{sameState, neededWhen, neededOf, same-state}
+use Rattle.dispersion.specs.Rest.{same_state, needed_when, needed_of, same_state_lem}
 
 -- no fewer than are worked, no more than before, and they leave what all n do
 pub record Enough {A : Type 0} (leaves : ℕ → A) (n needed k needed' : ℕ) : Type 0 where
@@ -17,13 +17,13 @@ pub record Enough {A : Type 0} (leaves : ℕ → A) (n needed k needed' : ℕ) :
 -- after cycle k + 1 from s to t, where a resting segment leaves the same from so many more on
 module _ {A : Type 0} (leaves : ℕ → A) {n needed k : ℕ} (others : ℕ) {s t : PlatoonState} (more : k < needed) (few : others ≤ 1)
     (before : leaves needed ≡ leaves n) (rests : s ≡ t → k + 1 + others ≤ needed → leaves (k + 1 + others) ≡ leaves needed) where
-  by_tests : (a b : Bool) → ltb (k + 1) needed ≡ a → sameState s t ≡ b → Enough leaves n needed k (neededWhen (a && b) (k + 1) others needed)
+  by_tests : (a b : Bool) → ltb (k + 1) needed ≡ a → same_state s t ≡ b → Enough leaves n needed k (needed_when (a && b) (k + 1) others needed)
   by_tests true true ea eb =
       let less = ltb-true (k + 1) needed ea in
-      record { some = omega arith; fewer = omega arith; enough = rests (same-state s t eb) (omega arith) ∙ before }
+      record { some = omega arith; fewer = omega arith; enough = rests (same_state_lem s t eb) (omega arith) ∙ before }
   by_tests true false ea eb = record { some = omega arith; fewer = omega arith; enough = before }
   by_tests false b ea eb = record { some = omega arith; fewer = omega arith; enough = before }
 
-  pub next-needed : {needed' : ℕ} → needed' ≡ neededOf (k + 1) others needed s t → Enough leaves n needed k needed'
-  unfolding neededOf
-  next-needed e = rw e (by_tests (ltb (k + 1) needed) (sameState s t) refl refl)
+  pub next_needed : {needed' : ℕ} → needed' ≡ needed_of (k + 1) others needed s t → Enough leaves n needed k needed'
+  unfolding needed_of
+  next_needed e = rw e (by_tests (ltb (k + 1) needed) (same_state s t) refl refl)

@@ -11,12 +11,12 @@ unfoldable pub divisor_of : ℕ → ℕ
 divisor_of running = 657500 + 69 * running
 
 -- t', the platoon arrival time in steps: to the nearest, halves up
-unfoldable pub arrivalTimeOf : ℕ → ℕ
-arrivalTimeOf running = (862 * running + 435000) / 1000000
+unfoldable pub arrival_time_of : ℕ → ℕ
+arrival_time_of running = (862 * running + 435000) / 1000000
 
 -- the segment (the paper's street) starts empty
-abbrev pub emptyState : PlatoonState
-emptyState = record { level = 0; carry = 0 }
+abbrev pub empty_state : PlatoonState
+empty_state = record { level = 0; carry = 0 }
 
 -- what a step makes, before the division by D
 abbrev pub made : ℕ → ℕ → PlatoonState → ℕ
@@ -33,9 +33,9 @@ arrivals running [] s = []
 arrivals running (q ∷ qs) s = (step_of running q s).level ∷ arrivals running qs (step_of running q s)
 
 -- the state that they leave
-unfoldable pub stateAfter : ℕ → List ℕ → PlatoonState → PlatoonState
-stateAfter running [] s = s
-stateAfter running (q ∷ qs) s = stateAfter running qs (step_of running q s)
+unfoldable pub state_after : ℕ → List ℕ → PlatoonState → PlatoonState
+state_after running [] s = s
+state_after running (q ∷ qs) s = state_after running qs (step_of running q s)
 
 -- the discharges of so many cycles, all alike, one cycle after the other
 unfoldable pub repeated : ℕ → List ℕ → List ℕ
@@ -44,15 +44,15 @@ repeated (suc n) q = repeated n q ++ q
 
 -- so many cycles are worked from step 1 of an empty segment, and the last is reported
 unfoldable pub reported : ℕ → List ℕ → ℕ → List ℕ
-reported running q cycles = drop ((cycles - 1) * length q) (arrivals running (repeated cycles q) emptyState)
+reported running q cycles = drop ((cycles - 1) * length q) (arrivals running (repeated cycles q) empty_state)
 
 -- a profile with the last of so many cycles in front, the numbers beyond as they were
 abbrev pub held : ℕ → List ℕ → ℕ → List ℕ → List ℕ
 held running q cycles profile = reported running q cycles ++ drop (length q) profile
 
 -- a profile after a cycle: the arrivals, and the numbers beyond as they were
-unfoldable pub cycleWritten : ℕ → List ℕ → PlatoonState → List ℕ → List ℕ
-cycleWritten running q s profile = arrivals running q s ++ drop (length q) profile
+unfoldable pub cycle_written : ℕ → List ℕ → PlatoonState → List ℕ → List ℕ
+cycle_written running q s profile = arrivals running q s ++ drop (length q) profile
 
 -- the state and the two work profiles
 pub record Work : Type 0 where
@@ -64,25 +64,25 @@ abbrev pub work : PlatoonState → List ℕ → List ℕ → Work
 work s f g = record { state = s; first = f; second = g }
 
 -- a cycle into the first profile, and one into the second; the state runs on
-abbrev pub intoFirst : ℕ → List ℕ → Work → Work
-intoFirst running q w = work (stateAfter running q w.state) (cycleWritten running q w.state w.first) w.second
+abbrev pub into_first : ℕ → List ℕ → Work → Work
+into_first running q w = work (state_after running q w.state) (cycle_written running q w.state w.first) w.second
 
-abbrev pub intoSecond : ℕ → List ℕ → Work → Work
-intoSecond running q w = work (stateAfter running q w.state) w.first (cycleWritten running q w.state w.second)
+abbrev pub into_second : ℕ → List ℕ → Work → Work
+into_second running q w = work (state_after running q w.state) w.first (cycle_written running q w.state w.second)
 
 -- cycle k + 1 goes into the first profile where k is even
-abbrev pub cycleWorked : ℕ → List ℕ → ℕ → Work → Work
-cycleWorked running q k w = cond (eqb (k % 2) 0) (intoFirst running q w) (intoSecond running q w)
+abbrev pub cycle_worked : ℕ → List ℕ → ℕ → Work → Work
+cycle_worked running q k w = cond (eqb (k % 2) 0) (into_first running q w) (into_second running q w)
 
 -- the cycles alternate between the profiles, cycle one in the first
-unfoldable pub cyclesWorked : ℕ → List ℕ → ℕ → List ℕ → List ℕ → Work
-cyclesWorked running q zero f g = work emptyState f g
-cyclesWorked running q (suc k) f g = cycleWorked running q k (cyclesWorked running q k f g)
+unfoldable pub cycles_worked : ℕ → List ℕ → ℕ → List ℕ → List ℕ → Work
+cycles_worked running q zero f g = work empty_state f g
+cycles_worked running q (suc k) f g = cycle_worked running q k (cycles_worked running q k f g)
 
 -- the first profile holds the last of so many cycles where their number is odd
-abbrev pub firstHolds : ℕ → Bool
-firstHolds cycles = eqb (cycles % 2) 1
+abbrev pub first_holds : ℕ → Bool
+first_holds cycles = eqb (cycles % 2) 1
 
 -- the part that holds it
-unfoldable pub lastPart : List ℕ → List ℕ → ℕ → ℕ → List ℕ
-lastPart f g cycles steps = cond (firstHolds cycles) (take steps f) (take steps g)
+unfoldable pub last_part : List ℕ → List ℕ → ℕ → ℕ → List ℕ
+last_part f g cycles steps = cond (first_holds cycles) (take steps f) (take steps g)

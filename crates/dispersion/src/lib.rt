@@ -1,10 +1,10 @@
 // Platoon dispersion along a segment, from equations 30-11 and 30-12 with steps of one second.
 // Running times are in milliseconds; profiles hold one number of flow units for each step.
 ghost use Rattle.std.specs.Prelude.{◌≡◌, ◌≤◌, ◌<◌, length};
-ghost use Rattle.limits.specs.Limits.{mostRunning};
-ghost use Rattle.dispersion.specs.Dispersion.{divisor_of, arrivalTimeOf, step_of, stateAfter, cycleWritten};
-ghost use Rattle.dispersion.specs.Dispersion.{held, work, cycleWorked, cyclesWorked, firstHolds, lastPart};
-ghost use Rattle.dispersion.specs.Rest.{neededOf};
+ghost use Rattle.limits.specs.Limits.{most_running};
+ghost use Rattle.dispersion.specs.Dispersion.{divisor_of, arrival_time_of, step_of, state_after, cycle_written};
+ghost use Rattle.dispersion.specs.Dispersion.{held, work, cycle_worked, cycles_worked, first_holds, last_part};
+ghost use Rattle.dispersion.specs.Rest.{needed_of};
 
 // The numerator of the smoothing factor (N of the paper); the divisor stands under it.
 const SMOOTHING: u64 = 500000;
@@ -25,14 +25,14 @@ fn divisor(running: u32) -> u64
 
 // The platoon arrival time in steps (t' of the paper), to the nearest, halves up.
 pub fn arrival_time(running: u32) -> u32
-    ensures { result ≡ arrivalTimeOf running }
+    ensures { result ≡ arrival_time_of running }
 {
     ((862 * (running as u64) + 435000) / 1000000) as u32
 }
 
 // One step.
 fn step(running: u32, discharge: u32, state: PlatoonState) -> PlatoonState
-    requires running_le_most_running { running ≤ mostRunning }
+    requires running_le_most_running { running ≤ most_running }
     requires carry_bound { state.carry < divisor_of running }
     ensures { result ≡ step_of running discharge state }
 {
@@ -53,11 +53,11 @@ fn disperse(
     profile: &mut [u32],
     from: PlatoonState,
 ) -> PlatoonState
-    requires running_le_most_running { running ≤ mostRunning }
+    requires running_le_most_running { running ≤ most_running }
     requires carry_bound { from.carry < divisor_of running }
     requires discharge_in_bounds { length discharge.now ≤ length profile.old }
-    ensures value { result ≡ stateAfter running discharge.now from }
-    ensures profile_after { profile.new ≡ cycleWritten running discharge.now from profile.old }
+    ensures value { result ≡ state_after running discharge.now from }
+    ensures profile_after { profile.new ≡ cycle_written running discharge.now from profile.old }
 {
     let mut state = from;
     let mut i = 0;
@@ -79,11 +79,11 @@ fn work_cycle(
     k: u32,
     from: PlatoonState,
 ) -> PlatoonState
-    requires running_le_most_running { running ≤ mostRunning }
+    requires running_le_most_running { running ≤ most_running }
     requires carry_bound { from.carry < divisor_of running }
     requires discharge_in_bounds { (length discharge.now ≤ length first.old) × (length discharge.now ≤ length second.old) }
     ensures { work result first.new second.new
-        ≡ cycleWorked running discharge.now k (work from first.old second.old) }
+        ≡ cycle_worked running discharge.now k (work from first.old second.old) }
 {
     if k % 2 == 0 {
         return disperse(running, discharge, first, from);
@@ -101,7 +101,7 @@ fn cycles_needed(
     after: PlatoonState,
 ) -> u32
     requires { others ≤ 1 }
-    ensures { result ≡ neededOf worked others cycles before after }
+    ensures { result ≡ needed_of worked others cycles before after }
 {
     if worked < cycles && before.level == after.level && before.carry == after.carry {
         return worked + others;
@@ -119,10 +119,10 @@ pub fn alternate(
     second: &mut [u32],
     cycles: u32,
 ) -> PlatoonState
-    requires running_le_most_running { running ≤ mostRunning }
+    requires running_le_most_running { running ≤ most_running }
     requires discharge_in_bounds { (length discharge.now ≤ length first.old) × (length discharge.now ≤ length second.old) }
     ensures { work result first.new second.new
-        ≡ cyclesWorked running discharge.now cycles first.old second.old }
+        ≡ cycles_worked running discharge.now cycles first.old second.old }
 {
     let mut state = PlatoonState { level: 0, carry: 0 };
     let mut needed = cycles;
@@ -139,7 +139,7 @@ pub fn alternate(
 // The last of so many cycles from an empty segment, each over the one before it in one profile. It ends once
 // the segment rests.
 pub fn disperse_last(running: u32, discharge: &[u32], profile: &mut [u32], cycles: u32)
-    requires running_le_most_running { running ≤ mostRunning }
+    requires running_le_most_running { running ≤ most_running }
     requires discharge_in_bounds { length discharge.now ≤ length profile.old }
     requires cycles_nonzero { 0 < cycles }
     ensures { profile.new ≡ held running discharge.now cycles profile.old }
@@ -157,7 +157,7 @@ pub fn disperse_last(running: u32, discharge: &[u32], profile: &mut [u32], cycle
 
 // Whether the first profile holds the last of so many cycles; otherwise the second does.
 pub fn first_holds(cycles: u32) -> bool
-    ensures { result ≡ firstHolds cycles }
+    ensures { result ≡ first_holds cycles }
 {
     cycles % 2 == 1
 }
@@ -165,7 +165,7 @@ pub fn first_holds(cycles: u32) -> bool
 // The part that holds the last cycle: the first so many steps of the profile that `first_holds` says.
 pub fn last_cycle<'a>(first: &'a [u32], second: &'a [u32], cycles: u32, steps: usize) -> &'a [u32]
     requires { (steps ≤ length first.now) × (steps ≤ length second.now) }
-    ensures { result.now ≡ lastPart first.now second.now cycles steps }
+    ensures { result.now ≡ last_part first.now second.now cycles steps }
 {
     if first_holds(cycles) {
         return &first[0..steps];

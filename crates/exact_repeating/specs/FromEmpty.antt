@@ -5,42 +5,42 @@ use Rattle.std.proofs.Math.Nat.{pow-zero, pow-succ'}
 use Rattle.std.proofs.Common.{mul-le-mul, mul-le-mul_left, mul-le-mul_right, arith, ap, ◌∙◌, get_or-append-add}
 use Rattle.std.proofs.Math.ListN.{get_or-append}
 use Rattle.exact.specs.Fraction.{Above}
-use Rattle.exact.specs.Exact.{exactNumerator}
-use Rattle.exact_repeating.specs.Repeating.{cycleWeight}
-use Rattle.exact_repeating.specs.Powers.{pow-add}
-use Rattle.exact_repeating.specs.Laws.{weight-split}
+use Rattle.exact.specs.Exact.{exact_numerator}
+use Rattle.exact_repeating.specs.Repeating.{cycle_weight}
+use Rattle.exact_repeating.specs.Powers.{pow_add}
+use Rattle.exact_repeating.specs.Laws.{weight_split}
 
 -- ---- X over discharges one after the other
 
-numerator-same : (n m : ℕ) (p q : ℕ → ℕ) (k : ℕ) → ((j : ℕ) → j < k → p j ≡ q j) → exactNumerator n m p k ≡ exactNumerator n m q k
-unfolding exactNumerator
-numerator-same n m p q zero h = refl
-numerator-same n m p q (suc k) h = rw (h k (omega arith), numerator-same n m p q k (λ j l. h j (omega arith)))
+numerator_same : (n m : ℕ) (p q : ℕ → ℕ) (k : ℕ) → ((j : ℕ) → j < k → p j ≡ q j) → exact_numerator n m p k ≡ exact_numerator n m q k
+unfolding exact_numerator
+numerator_same n m p q zero h = refl
+numerator_same n m p q (suc k) h = rw (h k (omega arith), numerator_same n m p q k (λ j l. h j (omega arith)))
 
-more-from : (n m q a d x r z : ℕ) → n * q * (a * d) + m * (x * a + r * z) ≡ (n * q * d + m * x) * a + m * r * z
-more-from n m q a d x r z = omega arith
+more_from : (n m q a d x r z : ℕ) → n * q * (a * d) + m * (x * a + r * z) ≡ (n * q * d + m * x) * a + m * r * z
+more_from n m q a d x r z = omega arith
 
 -- after a steps, k more
-numerator-more : (n m : ℕ) (q : ℕ → ℕ) (a k : ℕ)
-    → exactNumerator n m q (a + k) ≡ exactNumerator n m (λ j. q (a + j)) k * (n + m) ^ a + m ^ k * exactNumerator n m q a
-unfolding exactNumerator
-numerator-more n m q a zero = let e : a + 0 ≡ a = omega arith in rw (e, pow-zero m) (omega arith)
-numerator-more n m q a (suc k) =
+numerator_more : (n m : ℕ) (q : ℕ → ℕ) (a k : ℕ)
+    → exact_numerator n m q (a + k) ≡ exact_numerator n m (λ j. q (a + j)) k * (n + m) ^ a + m ^ k * exact_numerator n m q a
+unfolding exact_numerator
+numerator_more n m q a zero = let e : a + 0 ≡ a = omega arith in rw (e, pow-zero m) (omega arith)
+numerator_more n m q a (suc k) =
     let e : a + suc k ≡ suc (a + k) = omega arith in
-    rw (e, numerator-more n m q a k, pow-add (n + m) a k, pow-succ' m k)
-    (more-from n m (q (a + k)) ((n + m) ^ a) ((n + m) ^ k) (exactNumerator n m (λ j. q (a + j)) k) (m ^ k) (exactNumerator n m q a))
+    rw (e, numerator_more n m q a k, pow_add (n + m) a k, pow-succ' m k)
+    (more_from n m (q (a + k)) ((n + m) ^ a) ((n + m) ^ k) (exact_numerator n m (λ j. q (a + j)) k) (m ^ k) (exact_numerator n m q a))
 
 -- X over a list of discharges
 abbrev pub over : (n m : ℕ) → List ℕ → ℕ → ℕ
-over n m l k = exactNumerator n m (λ j. get_or l j 0) k
+over n m l k = exact_numerator n m (λ j. get_or l j 0) k
 
-pub over-append : (n m : ℕ) (a b : List ℕ) (k : ℕ)
+pub over_append : (n m : ℕ) (a b : List ℕ) (k : ℕ)
     → over n m (a ++ b) (length a + k) ≡ over n m b k * (n + m) ^ length a + m ^ k * over n m a (length a)
-over-append n m a b k =
-    numerator-more n m (λ j. get_or (a ++ b) j 0) (length a) k
+over_append n m a b k =
+    numerator_more n m (λ j. get_or (a ++ b) j 0) (length a) k
     ∙ rw (
-      numerator-same n m (λ j. get_or (a ++ b) (length a + j) 0) (λ j. get_or b j 0) k (λ j h. get_or-append-add a b j 0),
-      numerator-same n m (λ j. get_or (a ++ b) j 0) (λ j. get_or a j 0) (length a) (λ j h. get_or-append a b 0 j h),
+      numerator_same n m (λ j. get_or (a ++ b) (length a + j) 0) (λ j. get_or b j 0) k (λ j h. get_or-append-add a b j 0),
+      numerator_same n m (λ j. get_or (a ++ b) j 0) (λ j. get_or a j 0) (length a) (λ j h. get_or-append a b 0 j h),
     )
 
 -- ---- Xk is at most b·(D^k - (D-N)^k) where no discharge is above b; so XC is at most b·W
@@ -48,29 +48,29 @@ over-append n m a b k =
 le_from : (n m q x d r b : ℕ) → q ≤ b → x + b * r ≤ b * d → n * q * d + m * x + b * (m * r) ≤ b * ((n + m) * d)
 le_from n m q x d r b hq h = omega (arith, mul-le-mul_left (n * d) hq, mul-le-mul_left m h)
 
-numerator-le : (n m b : ℕ) (q : ℕ → ℕ) → ((j : ℕ) → q j ≤ b) → (k : ℕ) → exactNumerator n m q k + b * m ^ k ≤ b * (n + m) ^ k
-unfolding exactNumerator
-numerator-le n m b q h zero = rw (pow-zero m, pow-zero (n + m)) (omega arith)
-numerator-le n m b q h (suc k) =
+numerator_le : (n m b : ℕ) (q : ℕ → ℕ) → ((j : ℕ) → q j ≤ b) → (k : ℕ) → exact_numerator n m q k + b * m ^ k ≤ b * (n + m) ^ k
+unfolding exact_numerator
+numerator_le n m b q h zero = rw (pow-zero m, pow-zero (n + m)) (omega arith)
+numerator_le n m b q h (suc k) =
     rw (pow-succ' m k, pow-succ' (n + m) k)
-    (le_from n m (q k) (exactNumerator n m q k) ((n + m) ^ k) (m ^ k) b (h k) (numerator-le n m b q h k))
+    (le_from n m (q k) (exact_numerator n m q k) ((n + m) ^ k) (m ^ k) b (h k) (numerator_le n m b q h k))
 
-pub cycle-le : (n m c b : ℕ) (q : ℕ → ℕ) → ((j : ℕ) → q j ≤ b) → exactNumerator n m q c ≤ b * cycleWeight n m c
-cycle-le n m c b q h = omega (arith, numerator-le n m b q h c, ap (λ (z : ℕ). b * z) (weight-split n m c))
+pub cycle_le : (n m c b : ℕ) (q : ℕ → ℕ) → ((j : ℕ) → q j ≤ b) → exact_numerator n m q c ≤ b * cycle_weight n m c
+cycle_le n m c b q h = omega (arith, numerator_le n m b q h c, ap (λ (z : ℕ). b * z) (weight_split n m c))
 
 -- ---- what t steps of whole cycles lack. w and y are W and XC; p and s are D^t and (D-N)^t, and x is X over those steps
 
 -- a cycle more: r is (D-N)^C
-pub lack-turn : (w r y p s x : ℕ) → x * w + y * s ≡ y * p → (y * p + r * x) * w + y * (s * r) ≡ y * (p * (w + r))
-lack-turn w r y p s x h = omega (arith, ap (λ (z : ℕ). r * z) h)
+pub lack_turn : (w r y p s x : ℕ) → x * w + y * s ≡ y * p → (y * p + r * x) * w + y * (s * r) ≡ y * (p * (w + r))
+lack_turn w r y p s x h = omega (arith, ap (λ (z : ℕ). r * z) h)
 
 -- k steps more: d and r are D^k and (D-N)^k, and xk is X over those steps of one cycle
-pub lack-more : (w y p s x r xk : ℕ) → x * w + y * s ≡ y * p → (xk * p + r * x) * w + r * y * s ≡ (xk * w + r * y) * p
-lack-more w y p s x r xk h = omega (arith, ap (λ (z : ℕ). r * z) h)
+pub lack_more : (w y p s x r xk : ℕ) → x * w + y * s ≡ y * p → (xk * p + r * x) * w + r * y * s ≡ (xk * w + r * y) * p
+lack_more w y p s x r xk h = omega (arith, ap (λ (z : ℕ). r * z) h)
 
 -- it is small where the powers have grown apart
-lack-small : (u r d s p w y b : ℕ) → r ≤ d → y ≤ b * w → u * b * s ≤ p → u * (r * y * s) ≤ d * w * p
-lack-small u r d s p w y b hr hy hs =
+lack_small : (u r d s p w y b : ℕ) → r ≤ d → y ≤ b * w → u * b * s ≤ p → u * (r * y * s) ≤ d * w * p
+lack_small u r d s p w y b hr hy hs =
     let most : u * r * s * y ≤ u * r * s * (b * w) = mul-le-mul_left (u * r * s) hy in
     let few : r * w * (u * b * s) ≤ d * w * p = mul-le-mul (mul-le-mul_right w hr) hs in
     omega (arith, most, few)
@@ -84,6 +84,6 @@ above_from u x f p d w lack e small =
       high = omega (arith, ap (λ (z : ℕ). u * d * z) e, mul-le-mul_left d small);
     }
 
-pub lack-above : (u r d s p w y b x f : ℕ) → r ≤ d → y ≤ b * w → u * b * s ≤ p → x * w + r * y * s ≡ f * p
+pub lack_above : (u r d s p w y b x f : ℕ) → r ≤ d → y ≤ b * w → u * b * s ≤ p → x * w + r * y * s ≡ f * p
     → Above u (record { num = x; den = p * d }) (record { num = f; den = d * w })
-lack-above u r d s p w y b x f hr hy hs e = above_from u x f p d w (r * y * s) e (lack-small u r d s p w y b hr hy hs)
+lack_above u r d s p w y b x f hr hy hs e = above_from u x f p d w (r * y * s) e (lack_small u r d s p w y b hr hy hs)

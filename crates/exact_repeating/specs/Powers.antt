@@ -3,17 +3,17 @@ use Rattle.std.specs.Prelude.{ℕ, zero, suc, ◌+◌, ◌*◌, ◌^◌, ◌≤�
 use Rattle.std.proofs.Math.Nat.{pow-zero, pow-le-pow_left, le_dest}
 use Rattle.std.proofs.Common.{pow-suc, mul-zero, mul-le-mul, mul-le-mul_left, mul-le-mul_right, le-add_left, le_trans, arith, ap}
 
-pub pow-add : (a i j : ℕ) → a ^ (i + j) ≡ a ^ i * a ^ j
-pow-add a i zero = let e : i + 0 ≡ i = omega arith in rw (e, pow-zero) (omega arith)
-pow-add a i (suc j) =
+pub pow_add : (a i j : ℕ) → a ^ (i + j) ≡ a ^ i * a ^ j
+pow_add a i zero = let e : i + 0 ≡ i = omega arith in rw (e, pow-zero) (omega arith)
+pow_add a i (suc j) =
     let e : i + suc j ≡ suc (i + j) = omega arith in
-    rw (e, pow-suc a (i + j), pow-suc a j, pow-add a i j) (omega arith)
+    rw (e, pow-suc a (i + j), pow-suc a j, pow_add a i j) (omega arith)
 
-pub pow-mul : (a i j : ℕ) → a ^ (i * j) ≡ (a ^ i) ^ j
-pow-mul a i zero = rw (mul-zero, pow-zero a, pow-zero (a ^ i))
-pow-mul a i (suc j) =
+pub pow_mul : (a i j : ℕ) → a ^ (i * j) ≡ (a ^ i) ^ j
+pow_mul a i zero = rw (mul-zero, pow-zero a, pow-zero (a ^ i))
+pow_mul a i (suc j) =
     let e : i * suc j ≡ i * j + i = omega arith in
-    rw (e, pow-add a (i * j) i, pow-suc (a ^ i) j, pow-mul a i j)
+    rw (e, pow_add a (i * j) i, pow-suc (a ^ i) j, pow_mul a i j)
 
 -- Bernoulli: the first two terms of (n + m)^k
 bernoulli : (n m k : ℕ) → m ^ suc k + suc k * n * m ^ k ≤ (n + m) ^ suc k
@@ -40,7 +40,7 @@ outgrows n m k i t b hm hb ht = go (le_dest ht)
     go : (r : ℕ) × (suc k * i + r ≡ t) → b * m ^ t ≤ (n + m) ^ t
     go (r, e) =
         let assoc : b * ((m ^ suc k) ^ i * m ^ r) ≡ b * (m ^ suc k) ^ i * m ^ r = omega arith in
-        rw (← e, pow-add m (suc k * i) r, pow-add (n + m) (suc k * i) r, pow-mul m (suc k) i, pow-mul (n + m) (suc k) i, assoc)
+        rw (← e, pow_add m (suc k * i) r, pow_add (n + m) (suc k * i) r, pow_mul m (suc k) i, pow_mul (n + m) (suc k) i, assoc)
         (mul-le-mul
         (le_trans (mul-le-mul_right ((m ^ suc k) ^ i) hb) (doubled (m ^ suc k) ((n + m) ^ suc k) i (twice n m k hm)))
         (pow-le-pow_left (le-add_left m n) r))

@@ -2,18 +2,18 @@
 -- n + m is the divisor D; c is the number of steps of the cycle, and discharge k that of step k + 1.
 use Rattle.std.specs.Prelude.{ℕ, suc, ◌+◌, ◌-◌, ◌*◌, ◌^◌, ◌≤◌, ◌<◌, ◌≡◌}
 use Rattle.exact.specs.Fraction.{Fraction}
-use Rattle.exact.specs.Exact.{exactNumerator}
+use Rattle.exact.specs.Exact.{exact_numerator}
 
 -- W = D^C - (D-N)^C
-unfoldable pub cycleWeight : (n m c : ℕ) → ℕ
-cycleWeight n m c = (n + m) ^ c - m ^ c
+unfoldable pub cycle_weight : (n m c : ℕ) → ℕ
+cycle_weight n m c = (n + m) ^ c - m ^ c
 
 -- (Xk-as-W + (D-N)^k·XC) / (D^k·W) in discharge step k, with X over one cycle from empty
-unfoldable pub repeatingFlow : (n m c : ℕ) → (ℕ → ℕ) → ℕ → Fraction
-repeatingFlow n m c discharge k =
+unfoldable pub repeating_flow : (n m c : ℕ) → (ℕ → ℕ) → ℕ → Fraction
+repeating_flow n m c discharge k =
     record {
-      num = exactNumerator n m discharge k * cycleWeight n m c + m ^ k * exactNumerator n m discharge c;
-      den = (n + m) ^ k * cycleWeight n m c;
+      num = exact_numerator n m discharge k * cycle_weight n m c + m ^ k * exact_numerator n m discharge c;
+      den = (n + m) ^ k * cycle_weight n m c;
     }
 
 -- two fractions are one number

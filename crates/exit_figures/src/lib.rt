@@ -1,9 +1,9 @@
 // Figures of one exit's run: its total, what arrives on green, and the steps in which a crossing is blocked.
 ghost use Rattle.std.specs.Prelude.{◌≡◌, ◌<◌, ◌≤◌, length};
-ghost use Rattle.limits.specs.Limits.{stepBound};
+ghost use Rattle.limits.specs.Limits.{step_bound};
 ghost use Rattle.lists.specs.Lists.{sum};
 ghost use Rattle.signal.specs.Greens.{GreenFits};
-ghost use Rattle.exit_figures.specs.ExitFigures.{totalBound, greenFlow, permilleOf, figuresOf, blocked, blockedSteps};
+ghost use Rattle.exit_figures.specs.ExitFigures.{total_bound, green_flow, permille_of, figures_of, blocked, blocked_steps};
 
 use signal::Green;
 
@@ -20,7 +20,7 @@ pub struct ExitFigures {
 }
 
 pub fn total(run: &[u32]) -> u64
-    requires { length run.now < stepBound }
+    requires { length run.now < step_bound }
     ensures { result ≡ sum run.now }
 {
     let mut all: u64 = 0;
@@ -33,8 +33,8 @@ pub fn total(run: &[u32]) -> u64
 }
 
 fn green_flow(green: Green, run: &[u32]) -> u64
-    requires { (length run.now < stepBound) × GreenFits (length run.now) green }
-    ensures { result ≡ greenFlow green run.now }
+    requires { (length run.now < step_bound) × GreenFits (length run.now) green }
+    ensures { result ≡ green_flow green run.now }
 {
     let c = run.len() as u32;
     let mut arrived: u64 = 0;
@@ -49,8 +49,8 @@ fn green_flow(green: Green, run: &[u32]) -> u64
 }
 
 fn permille(part: u64, whole: u64) -> u32
-    requires { (part ≤ whole) × (whole < totalBound) }
-    ensures { result ≡ permilleOf part whole }
+    requires { (part ≤ whole) × (whole < total_bound) }
+    ensures { result ≡ permille_of part whole }
 {
     if whole == 0 {
         return 0;
@@ -60,8 +60,8 @@ fn permille(part: u64, whole: u64) -> u32
 
 // The figures of a signalised exit, its run a cycle.
 pub fn figures(green: Green, run: &[u32]) -> ExitFigures
-    requires { (length run.now < stepBound) × GreenFits (length run.now) green }
-    ensures { result ≡ figuresOf green run.now }
+    requires { (length run.now < step_bound) × GreenFits (length run.now) green }
+    ensures { result ≡ figures_of green run.now }
 {
     let all = total(run);
     let part = green_flow(green, run);
@@ -80,8 +80,8 @@ fn is_blocked(flow: u32, headway: u32) -> bool
 }
 
 pub fn blocked_steps(headway: u32, run: &[u32]) -> u32
-    requires { length run.now < stepBound }
-    ensures { result ≡ blockedSteps headway run.now }
+    requires { length run.now < step_bound }
+    ensures { result ≡ blocked_steps headway run.now }
 {
     let mut n: u32 = 0;
     let mut at = 0;

@@ -6,88 +6,88 @@ use Rattle.balance_flows.specs.Flows.{zero64}
 use Rattle.octets.specs.Octets.{word4}
 use Rattle.segment.specs.declared.Segment.{Segment}
 use Rattle.segment.specs.Layout.{number_at}
-use Rattle.segment.specs.Segment.{segmentOf}
+use Rattle.segment.specs.Segment.{segment_of}
 use Rattle.balance_decision.specs.declared.Outcome.{Outcome}
 use Rattle.balance_decision.specs.declared.Outcome.TheVariants.{Worked, Refused, Unsettled}
-use Rattle.balance_decision.specs.Outcome.{refusalOf, zero-is-worked}
-use Rattle.balance_decision.specs.Meaning.{from-cells}
-use Rattle.metering.specs.Metering.{dischargeVolumes}
+use Rattle.balance_decision.specs.Outcome.{refusal_of, zero_is_worked}
+use Rattle.balance_decision.specs.Meaning.{from_cells}
+use Rattle.metering.specs.Metering.{discharge_volumes}
 use Rattle.propagation.specs.Propagation.{Profiles}
 use Rattle.working_outcome.specs.declared.Working.{Working}
-use Rattle.working.specs.Working.{Called, Works, acceptOf, call_of, byRecord, byDecision, decided-outcome, decisionFor}
-use Rattle.page.specs.Page.{pageRoom}
-use Rattle.sheet.specs.Sheet.{SheetCalled, printed, noRoom, sheetBy, sheetCallOf, Sheets}
+use Rattle.working.specs.Working.{Called, Works, accept_of, call_of, by_record, by_decision, decided_outcome, decision_for}
+use Rattle.page.specs.Page.{page_room}
+use Rattle.sheet.specs.Sheet.{SheetCalled, printed, no_room, sheet_by, sheet_call_of, Sheets}
 use Rattle.points.specs.declared.Points.{Points}
 use Rattle.point_working.specs.declared.PointWorking.{PointWorking}
 use Rattle.point_working.specs.PointWorking as pointed
-use Rattle.point_working.specs.PointWorking.{PointCalled, PointWorks, pointCallOf}
+use Rattle.point_working.specs.PointWorking.{PointCalled, PointWorks, point_call_of}
 use Rattle.discharge.specs.declared.Discharged.{Discharged}
 use Rattle.discharge.specs.declared.Discharged.TheVariants.{Refused as RefusedVolumes, Volumes}
 use Rattle.discharge.specs.Discharge.{EntriesDischarge, Calls}
-use Rattle.discharge.specs.Laws.{refused-above}
+use Rattle.discharge.specs.Laws.{refused_above}
 use Rattle.archive_format.specs.declared.Answer.{Answer}
 use Rattle.archive_format.specs.declared.TitlePart.{TitlePart}
 use Rattle.archive_format.specs.declared.TitlePart.TheVariants.{Part, Refused as NoPart}
-use Rattle.archive_format.specs.Archive.{firstEdition, bytes_at, titlePartOf, titleOf, Writes}
+use Rattle.archive_format.specs.Archive.{first_edition, bytes_at, title_part_of, title_of, Writes}
 use Rattle.exports.specs.declared.WorkAnswer.{WorkAnswer}
 use Rattle.exports.specs.declared.PointWorkAnswer.{PointWorkAnswer}
 use Rattle.exports.specs.declared.VolumesAnswer.{VolumesAnswer}
 use Rattle.exports.specs.declared.ValueAnswer.{ValueAnswer}
 use Rattle.exports.specs.declared.TitleAnswer.{TitleAnswer}
-use Rattle.exports.specs.Exports.{SegmentWorks, workAnswer, SegmentPointWorks, pointWorkAnswer, SegmentSheets, SegmentDischarges, volumesAnswer}
-use Rattle.exports.specs.Exports.{valueAnswer, ArchiveWrites, titleAnswer}
+use Rattle.exports.specs.Exports.{SegmentWorks, work_answer, SegmentPointWorks, point_work_answer, SegmentSheets, SegmentDischarges, volumes_answer}
+use Rattle.exports.specs.Exports.{value_answer, ArchiveWrites, title_answer}
 
 -- what has the number 0 is worked
 pub record WorkedAt (o : Outcome) : Type 0 where
   pub sum : Float
   pub is : o ≡ Worked sum
 
-decided-worked : (s : Segment) (p : Profiles) → let o = (byDecision s (decisionFor s) p).answer.outcome in refusalOf o ≡ 0 → WorkedAt o
-unfolding decisionFor
-decided-worked s p e =
-    let o = decided-outcome s (decisionFor s) p in
-    let f = from-cells (dischargeVolumes s) s.exits s.seeds (sym (ap refusalOf o) ∙ e) in
+decided_worked : (s : Segment) (p : Profiles) → let o = (by_decision s (decision_for s) p).answer.outcome in refusal_of o ≡ 0 → WorkedAt o
+unfolding decision_for
+decided_worked s p e =
+    let o = decided_outcome s (decision_for s) p in
+    let f = from_cells (discharge_volumes s) s.exits s.seeds (sym (ap refusal_of o) ∙ e) in
     record { sum = f.sum; is = o ∙ f.worked }
 
-record-worked : (x : Or Segment) (p : Profiles) → let o = (byRecord x p).answer.outcome in refusalOf o ≡ 0 → WorkedAt o
-record-worked (refused n) p e = record { sum = zero64; is = zero-is-worked n zero64 e }
-record-worked (ok s) p e = decided-worked s p e
+record_worked : (x : Or Segment) (p : Profiles) → let o = (by_record x p).answer.outcome in refusal_of o ≡ 0 → WorkedAt o
+record_worked (refused n) p e = record { sum = zero64; is = zero_is_worked n zero64 e }
+record_worked (ok s) p e = decided_worked s p e
 
-pub call-worked : (l : List ℕ) (p : Profiles) → let o = (call_of l p).answer.outcome in refusalOf o ≡ 0 → WorkedAt o
+pub call_worked : (l : List ℕ) (p : Profiles) → let o = (call_of l p).answer.outcome in refusal_of o ≡ 0 → WorkedAt o
 unfolding call_of
-call-worked l p = record-worked (acceptOf l (length p.output) (length p.first) (length p.second)) p
+call_worked l p = record_worked (accept_of l (length p.output) (length p.first) (length p.second)) p
 
 -- the working that a call with points answers is that of the record
-working-is : (x : Or Segment) (ps : Points) (p : Profiles) (q : List ℕ) → (pointed.byRecord x ps p q).answer.working ≡ (byRecord x p).answer
-working-is (refused n) ps p q = refl
-working-is (ok s) ps p q = refl
+working_is : (x : Or Segment) (ps : Points) (p : Profiles) (q : List ℕ) → (pointed.byRecord x ps p q).answer.working ≡ (by_record x p).answer
+working_is (refused n) ps p q = refl
+working_is (ok s) ps p q = refl
 
-pub point-call-worked : (l : List ℕ) (ps : Points) (p : Profiles) (q : List ℕ) →
-    let o = (pointCallOf l ps p q).answer.working.outcome in refusalOf o ≡ 0 → WorkedAt o
-unfolding pointCallOf
-point-call-worked l ps p q =
+pub point_call_worked : (l : List ℕ) (ps : Points) (p : Profiles) (q : List ℕ) →
+    let o = (point_call_of l ps p q).answer.working.outcome in refusal_of o ≡ 0 → WorkedAt o
+unfolding point_call_of
+point_call_worked l ps p q =
     let x = pointed.acceptOf l ps (length p.output) (length q) (length p.first) (length p.second) in
-    rw (working-is x ps p q) (record-worked x p)
+    rw (working_is x ps p q) (record_worked x p)
 
 -- the call's contract, in numbers
-pub segment-works : (l : List ℕ) (p : Profiles) (w : Working) (p' : Profiles) (r : WorkAnswer) → Works l p w p' → r ≡ workAnswer w → SegmentWorks l p r p'
-segment-works l p w p' r works e =
+pub segment_works : (l : List ℕ) (p : Profiles) (w : Working) (p' : Profiles) (r : WorkAnswer) → Works l p w p' → r ≡ work_answer w → SegmentWorks l p r p'
+segment_works l p w p' r works e =
     let same : w ≡ (call_of l p).answer = ap (λ (c : Called). c.answer) works.is in
-    let worked : r.number ≡ 0 → WorkedAt w.outcome = rw (e, same) (call-worked l p) in
+    let worked : r.number ≡ 0 → WorkedAt w.outcome = rw (e, same) (call_worked l p) in
     record {
-      answer = e ∙ ap workAnswer same;
+      answer = e ∙ ap work_answer same;
       after = ap (λ (c : Called). c.after) works.is;
       accurate = λ z. let a = worked z in rw e (works.accurate a.sum a.is);
     }
 
 -- the call's with points, in numbers
-pub segment-point-works : (l : List ℕ) (ps : Points) (p : Profiles) (q : List ℕ) (w : PointWorking) (p' : Profiles) (q' : List ℕ) (r : PointWorkAnswer) →
-    PointWorks l ps p q w p' q' → r ≡ pointWorkAnswer w → SegmentPointWorks l ps p q r p' q'
-segment-point-works l ps p q w p' q' r works e =
-    let same : w ≡ (pointCallOf l ps p q).answer = ap (λ (c : PointCalled). c.answer) works.is in
-    let worked : r.work.number ≡ 0 → WorkedAt w.working.outcome = rw (e, same) (point-call-worked l ps p q) in
+pub segment_point_works : (l : List ℕ) (ps : Points) (p : Profiles) (q : List ℕ) (w : PointWorking) (p' : Profiles) (q' : List ℕ) (r : PointWorkAnswer) →
+    PointWorks l ps p q w p' q' → r ≡ point_work_answer w → SegmentPointWorks l ps p q r p' q'
+segment_point_works l ps p q w p' q' r works e =
+    let same : w ≡ (point_call_of l ps p q).answer = ap (λ (c : PointCalled). c.answer) works.is in
+    let worked : r.work.number ≡ 0 → WorkedAt w.working.outcome = rw (e, same) (point_call_worked l ps p q) in
     record {
-      answer = e ∙ ap pointWorkAnswer same;
+      answer = e ∙ ap point_work_answer same;
       after = ap (λ (c : PointCalled). c.after) works.is;
       passing = ap (λ (c : PointCalled). c.passing) works.is;
       accurate = λ z. let a = worked z in rw e (works.accurate a.sum a.is);
@@ -95,29 +95,29 @@ segment-point-works l ps p q w p' q' r works e =
     }
 
 -- a sheet that is made is that of a record that works
-sheet-call-worked : (l : List ℕ) (p : Profiles) (t : List ℕ) → let o = (sheetCallOf l p t).answer.outcome in refusalOf o ≡ 0 → WorkedAt o
-unfolding sheetCallOf
-sheet-call-worked l p t = by-outcome (call_of l p).answer.outcome refl
+sheet_call_worked : (l : List ℕ) (p : Profiles) (t : List ℕ) → let o = (sheet_call_of l p t).answer.outcome in refusal_of o ≡ 0 → WorkedAt o
+unfolding sheet_call_of
+sheet_call_worked l p t = by_outcome_lem (call_of l p).answer.outcome refl
   where
-    by-room : (b : Bool) (x : Float) → (call_of l p).answer.outcome ≡ Worked x →
-        let o = (cond b (printed (word4 l number_at) (segmentOf l).cycle (call_of l p) t) (noRoom p t)).answer.outcome in refusalOf o ≡ 0 → WorkedAt o
-    by-room true x e z = record { sum = x; is = e }
-    by-room false x e z = absurd (omega arith)
+    by_room : (b : Bool) (x : Float) → (call_of l p).answer.outcome ≡ Worked x →
+        let o = (cond b (printed (word4 l number_at) (segment_of l).cycle (call_of l p) t) (no_room p t)).answer.outcome in refusal_of o ≡ 0 → WorkedAt o
+    by_room true x e z = record { sum = x; is = e }
+    by_room false x e z = absurd (omega arith)
 
-    by-outcome : (o : Outcome) → (call_of l p).answer.outcome ≡ o →
-        let u = (sheetBy o (word4 l number_at) (segmentOf l).cycle (call_of l p) p t).answer.outcome in refusalOf u ≡ 0 → WorkedAt u
-    by-outcome (Worked x) e = by-room (leb pageRoom (length t)) x e
-    by-outcome (Refused n) e = call-worked l p
-    by-outcome (Unsettled x) e = call-worked l p
+    by_outcome_lem : (o : Outcome) → (call_of l p).answer.outcome ≡ o →
+        let u = (sheet_by o (word4 l number_at) (segment_of l).cycle (call_of l p) p t).answer.outcome in refusal_of u ≡ 0 → WorkedAt u
+    by_outcome_lem (Worked x) e = by_room (leb page_room (length t)) x e
+    by_outcome_lem (Refused n) e = call_worked l p
+    by_outcome_lem (Unsettled x) e = call_worked l p
 
 -- the sheet's, in numbers
-pub segment-sheets : (l : List ℕ) (p : Profiles) (t : List ℕ) (w : Working) (p' : Profiles) (t' : List ℕ) (r : WorkAnswer) →
-    Sheets l p t w p' t' → r ≡ workAnswer w → SegmentSheets l p t r p' t'
-segment-sheets l p t w p' t' r sheets e =
-    let same : w ≡ (sheetCallOf l p t).answer = ap (λ (c : SheetCalled). c.answer) sheets.is in
-    let worked : r.number ≡ 0 → WorkedAt w.outcome = rw (e, same) (sheet-call-worked l p t) in
+pub segment_sheets : (l : List ℕ) (p : Profiles) (t : List ℕ) (w : Working) (p' : Profiles) (t' : List ℕ) (r : WorkAnswer) →
+    Sheets l p t w p' t' → r ≡ work_answer w → SegmentSheets l p t r p' t'
+segment_sheets l p t w p' t' r sheets e =
+    let same : w ≡ (sheet_call_of l p t).answer = ap (λ (c : SheetCalled). c.answer) sheets.is in
+    let worked : r.number ≡ 0 → WorkedAt w.outcome = rw (e, same) (sheet_call_worked l p t) in
     record {
-      answer = e ∙ ap workAnswer same;
+      answer = e ∙ ap work_answer same;
       after = ap (λ (c : SheetCalled). c.after) sheets.is;
       page = ap (λ (c : SheetCalled). c.page) sheets.is;
       accurate = λ z. let a = worked z in rw e (sheets.accurate a.sum a.is);
@@ -126,32 +126,32 @@ segment-sheets l p t w p' t' r sheets e =
     }
 
 -- the discharge call's, in numbers
-pub segment-discharges : (l p : List ℕ) (d : Discharged) (p' : List ℕ) (r : VolumesAnswer) → Calls l p d p' → r ≡ volumesAnswer d → SegmentDischarges l p r p'
-segment-discharges l p d p' r calls e =
+pub segment_discharges : (l p : List ℕ) (d : Discharged) (p' : List ℕ) (r : VolumesAnswer) → Calls l p d p' → r ≡ volumes_answer d → SegmentDischarges l p r p'
+segment_discharges l p d p' r calls e =
     record {
-      answer = e ∙ ap volumesAnswer calls.answer;
+      answer = e ∙ ap volumes_answer calls.answer;
       profile = calls.profile;
       entries = rw e (go d calls);
     }
   where
-    go : (d : Discharged) → Calls l p d p' → (volumesAnswer d).number ≡ 0 →
-        EntriesDischarge (segmentOf l) (volumesAnswer d).left (volumesAnswer d).through (volumesAnswer d).right p'
-    go (RefusedVolumes n) c z = absurd (let h = refused-above l (length p) n (sym c.answer) in omega arith)
+    go : (d : Discharged) → Calls l p d p' → (volumes_answer d).number ≡ 0 →
+        EntriesDischarge (segment_of l) (volumes_answer d).left (volumes_answer d).through (volumes_answer d).right p'
+    go (RefusedVolumes n) c z = absurd (let h = refused_above l (length p) n (sym c.answer) in omega arith)
     go (Volumes left through right) c z = c.entries left through right refl
 
 abbrev pub part_of : TitleAnswer → List ℕ → List ℕ
 part_of t l = take t.length (drop t.place l)
 
 -- the part of the archive that is told is the title
-pub title-answer : (l : List ℕ) (n : ℕ) → part_of (titleAnswer (titlePartOf firstEdition l n)) l ≡ titleOf firstEdition l n
-unfolding titleOf
-title-answer l n = go (titlePartOf firstEdition l n)
+pub title_answer_lem : (l : List ℕ) (n : ℕ) → part_of (title_answer (title_part_of first_edition l n)) l ≡ title_of first_edition l n
+unfolding title_of
+title_answer_lem l n = go (title_part_of first_edition l n)
   where
-    go : (t : TitlePart) → part_of (titleAnswer t) l ≡ bytes_at l t
+    go : (t : TitlePart) → part_of (title_answer t) l ≡ bytes_at l t
     go (NoPart m) = refl
     go (Part place size) = refl
 
 -- a call that writes to a lent buffer, in numbers
-pub archive-writes : {x : Or (List ℕ)} {before : List ℕ} {a : Answer} {after : List ℕ} {r : ValueAnswer} → Writes x before a after → r ≡ valueAnswer a
+pub archive_writes : {x : Or (List ℕ)} {before : List ℕ} {a : Answer} {after : List ℕ} {r : ValueAnswer} → Writes x before a after → r ≡ value_answer a
     → ArchiveWrites x before r after
-archive-writes w e = record { answer = e ∙ ap valueAnswer w.answer; buffer = w.buffer }
+archive_writes w e = record { answer = e ∙ ap value_answer w.answer; buffer = w.buffer }

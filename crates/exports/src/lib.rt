@@ -5,10 +5,10 @@
 // in a caller's declaration is compared by runs alone (reference/linked).
 ghost use Rattle.std.specs.Prelude.{◌≡◌, length};
 ghost use Rattle.propagation.specs.Propagation.{lent};
-ghost use Rattle.archive_format.specs.Archive.{addOf, answer_of, count_of, findOf, place_of, firstEdition, titlePartOf};
-ghost use Rattle.report.specs.Report.{reportOf, sheetsOf};
-ghost use Rattle.exports.specs.Exports.{SegmentWorks, workAnswer, SegmentPointWorks, pointWorkAnswer, SegmentDischarges, SegmentSheets};
-ghost use Rattle.exports.specs.Exports.{volumesAnswer, valueAnswer, ArchiveWrites, titleAnswer};
+ghost use Rattle.archive_format.specs.Archive.{add_of, answer_of, count_of, find_of, place_of, first_edition, title_part_of};
+ghost use Rattle.report.specs.Report.{report_of, sheets_of};
+ghost use Rattle.exports.specs.Exports.{SegmentWorks, work_answer, SegmentPointWorks, point_work_answer, SegmentDischarges, SegmentSheets};
+ghost use Rattle.exports.specs.Exports.{volumes_answer, value_answer, ArchiveWrites, title_answer};
 
 use archive_format::{Answer, TitlePart};
 use discharge::Discharged;
@@ -70,7 +70,7 @@ pub struct TitleAnswer {
 }
 
 fn work_answer(w: Working) -> WorkAnswer
-    ensures { result ≡ workAnswer w }
+    ensures { result ≡ work_answer w }
 {
     let outcome = w.outcome;
     let pairs = w.pairs;
@@ -92,7 +92,7 @@ fn work_answer(w: Working) -> WorkAnswer
 }
 
 fn point_work_answer(w: PointWorking) -> PointWorkAnswer
-    ensures { result ≡ pointWorkAnswer w }
+    ensures { result ≡ point_work_answer w }
 {
     let blocked = w.blocked;
     PointWorkAnswer {
@@ -102,7 +102,7 @@ fn point_work_answer(w: PointWorking) -> PointWorkAnswer
 }
 
 fn volumes_answer(d: Discharged) -> VolumesAnswer
-    ensures { result ≡ volumesAnswer d }
+    ensures { result ≡ volumes_answer d }
 {
     match d {
         Discharged::Refused(n) => VolumesAnswer {
@@ -125,7 +125,7 @@ fn volumes_answer(d: Discharged) -> VolumesAnswer
 }
 
 fn value_answer(a: Answer) -> ValueAnswer
-    ensures { result ≡ valueAnswer a }
+    ensures { result ≡ value_answer a }
 {
     match a {
         Answer::Refused(n) => ValueAnswer {
@@ -195,7 +195,7 @@ pub extern "C" fn segment_discharge(bytes: &[u8], profile: &mut [u32]) -> Volume
 // `archive_read::count`.
 #[unsafe(no_mangle)]
 pub extern "C" fn archive_count(archive: &[u8]) -> ValueAnswer
-    ensures { result ≡ valueAnswer (answer_of (count_of firstEdition archive.now)) }
+    ensures { result ≡ value_answer (answer_of (count_of first_edition archive.now)) }
 {
     value_answer(archive_read::count(archive))
 }
@@ -203,7 +203,7 @@ pub extern "C" fn archive_count(archive: &[u8]) -> ValueAnswer
 // `archive_read::place`, the index from 0.
 #[unsafe(no_mangle)]
 pub extern "C" fn archive_place(archive: &[u8], i: usize) -> ValueAnswer
-    ensures { result ≡ valueAnswer (answer_of (place_of firstEdition archive.now i)) }
+    ensures { result ≡ value_answer (answer_of (place_of first_edition archive.now i)) }
 {
     value_answer(archive_read::place(archive, i))
 }
@@ -211,7 +211,7 @@ pub extern "C" fn archive_place(archive: &[u8], i: usize) -> ValueAnswer
 // `archive_read::find`.
 #[unsafe(no_mangle)]
 pub extern "C" fn archive_find(archive: &[u8], number: u32) -> ValueAnswer
-    ensures { result ≡ valueAnswer (answer_of (findOf firstEdition archive.now number)) }
+    ensures { result ≡ value_answer (answer_of (find_of first_edition archive.now number)) }
 {
     value_answer(archive_read::find(archive, number))
 }
@@ -219,7 +219,7 @@ pub extern "C" fn archive_find(archive: &[u8], number: u32) -> ValueAnswer
 // `archive_read::title_part`; no reference is handed to C.
 #[unsafe(no_mangle)]
 pub extern "C" fn archive_title(archive: &[u8], number: u32) -> TitleAnswer
-    ensures { result ≡ titleAnswer (titlePartOf firstEdition archive.now number) }
+    ensures { result ≡ title_answer (title_part_of first_edition archive.now number) }
 {
     let part = archive_read::title_part(archive, number);
     match part {
@@ -244,7 +244,7 @@ pub extern "C" fn archive_add(
     title: &[u8],
     buffer: &mut [u8],
 ) -> ValueAnswer
-    ensures { ArchiveWrites (addOf firstEdition archive.now bytes.now title.now (length buffer.old))
+    ensures { ArchiveWrites (add_of first_edition archive.now bytes.now title.now (length buffer.old))
         buffer.old result buffer.new }
 {
     value_answer(archive_add::add(archive, bytes, title, buffer))
@@ -253,7 +253,7 @@ pub extern "C" fn archive_add(
 // `report::report`: 17 where the buffer is under 262144 bytes.
 #[unsafe(no_mangle)]
 pub extern "C" fn archive_report(archive: &[u8], text: &mut [u8]) -> ValueAnswer
-    ensures { ArchiveWrites (reportOf archive.now (length text.old)) text.old result text.new }
+    ensures { ArchiveWrites (report_of archive.now (length text.old)) text.old result text.new }
 {
     value_answer(report::report(archive, text))
 }
@@ -261,7 +261,7 @@ pub extern "C" fn archive_report(archive: &[u8], text: &mut [u8]) -> ValueAnswer
 // `report::sheets`: 17 where the buffer is under 2242560 bytes.
 #[unsafe(no_mangle)]
 pub extern "C" fn archive_sheets(archive: &[u8], text: &mut [u8]) -> ValueAnswer
-    ensures { ArchiveWrites (sheetsOf archive.now (length text.old)) text.old result text.new }
+    ensures { ArchiveWrites (sheets_of archive.now (length text.old)) text.old result text.new }
 {
     value_answer(report::sheets(archive, text))
 }

@@ -3,15 +3,15 @@ use Prim.Native.Nat.{ℕ, suc, ◌-◌, ◌≤◌, ◌<◌}
 use native.Mathlib.Omega.{arith}
 use mathlib.Core.Path.{◌≡◌, ap}
 use mathlib.Core.List.{[], ◌++◌}
-use Rattle.page.specs.Page.{blankLines, line, lineEnd, lines}
+use Rattle.page.specs.Page.{blank_lines, line, line_end, lines}
 
-pub blank-first : (left p : ℕ) → 0 < left → blankLines left ≡ lineEnd (p - p) ++ blankLines (left - 1)
+pub blank_first : (left p : ℕ) → 0 < left → blank_lines left ≡ line_end (p - p) ++ blank_lines (left - 1)
 unfolding line lines
-blank-first left p more =
+blank_first left p more =
     let n : left ≡ suc (left - 1) = omega arith in
     let z : p - p ≡ 0 = omega arith in
-    rw z (ap blankLines n)
+    rw z (ap blank_lines n)
 
-pub blank_none : (left : ℕ) → left ≤ 0 → blankLines left ≡ []
+pub blank_none : (left : ℕ) → left ≤ 0 → blank_lines left ≡ []
 unfolding lines
 blank_none left none = let z : left ≡ 0 = omega arith in rw z

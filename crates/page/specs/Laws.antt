@@ -3,18 +3,18 @@ use Rattle.std.specs.Prelude.{ℕ, ◌-◌, ◌≡◌, refl, List, [], ◌∷◌
 use Rattle.std.proofs.Common.{ap, append_assoc, append-nil}
 use Rattle.buffer.specs.Buffer.{Wrote}
 use Rattle.buffer.specs.Pieces.{ended_by}
-use Rattle.page.specs.Page.{line, lineEnd, lines}
+use Rattle.page.specs.Page.{line, line_end, lines}
 
-pub line-ended : {b : List ℕ} {at : ℕ} {t b' : List ℕ} {p : ℕ} {b'' : List ℕ} {q : ℕ} →
-    Wrote b at t b' p → Wrote b' p (lineEnd (p - at)) b'' q → Wrote b at (line t) b'' q
+pub line_ended : {b : List ℕ} {at : ℕ} {t b' : List ℕ} {p : ℕ} {b'' : List ℕ} {q : ℕ} →
+    Wrote b at t b' p → Wrote b' p (line_end (p - at)) b'' q → Wrote b at (line t) b'' q
 unfolding line
-line-ended u v = ended_by lineEnd u v
+line_ended u v = ended_by line_end u v
 
-pub lines-append : (ts us : List (List ℕ)) → lines (ts ++ us) ≡ lines ts ++ lines us
+pub lines_append : (ts us : List (List ℕ)) → lines (ts ++ us) ≡ lines ts ++ lines us
 unfolding lines
-lines-append [] us = refl
-lines-append (t ∷ ts) us = rw append_assoc (ap (λ (l : List ℕ). line t ++ l) (lines-append ts us))
+lines_append [] us = refl
+lines_append (t ∷ ts) us = rw append_assoc (ap (λ (l : List ℕ). line t ++ l) (lines_append ts us))
 
-pub line-alone : (t : List ℕ) → lines (t ∷ []) ≡ line t
+pub line_alone : (t : List ℕ) → lines (t ∷ []) ≡ line t
 unfolding lines
-line-alone t = append-nil (line t)
+line_alone t = append-nil (line t)

@@ -3,22 +3,22 @@ use Rattle.std.specs.Prelude.{ℕ, ◌+◌, ◌-◌, ◌*◌, List, [], ◌∷�
 use Rattle.text.specs.Text.{blanks}
 use Rattle.text.specs.Words.{newline}
 
-abbrev pub lineWidth : ℕ
-lineWidth = 72
+abbrev pub line_width : ℕ
+line_width = 72
 
-abbrev pub pageLines : ℕ
-pageLines = 60
+abbrev pub page_lines : ℕ
+page_lines = 60
 
 -- the bytes of a page
-abbrev pub pageRoom : ℕ
-pageRoom = pageLines * (lineWidth + 1)
+abbrev pub page_room : ℕ
+page_room = page_lines * (line_width + 1)
 
 -- the end of a line whose text has n bytes: blanks to its width, a newline
-abbrev pub lineEnd : ℕ → List ℕ
-lineEnd n = blanks (lineWidth - n) ++ newline
+abbrev pub line_end : ℕ → List ℕ
+line_end n = blanks (line_width - n) ++ newline
 
 unfoldable pub line : List ℕ → List ℕ
-line t = t ++ lineEnd (length t)
+line t = t ++ line_end (length t)
 
 -- lines one after another, from their texts
 unfoldable pub lines : List (List ℕ) → List ℕ
@@ -26,9 +26,9 @@ lines [] = []
 lines (t ∷ ts) = line t ++ lines ts
 
 -- so many blank lines
-abbrev pub blankLines : ℕ → List ℕ
-blankLines n = lines (replicate n [])
+abbrev pub blank_lines : ℕ → List ℕ
+blank_lines n = lines (replicate n [])
 
 -- the lines given, and blank ones to the page's end
 unfoldable pub page : List (List ℕ) → List ℕ
-page ts = lines ts ++ blankLines (pageLines - length ts)
+page ts = lines ts ++ blank_lines (page_lines - length ts)

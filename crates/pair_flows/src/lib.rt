@@ -1,6 +1,6 @@
 // The sixteen pair flows in a struct, so that they stand beside an enum in an answer.
 ghost use Rattle.std.specs.Prelude.{◌≡◌};
-ghost use Rattle.pair_flows.specs.Pairs.{pairFlows, rows_of};
+ghost use Rattle.pair_flows.specs.Pairs.{pair_flows, rows_of};
 
 // Flow units of each pair: a row of four exits for each entry.
 #[repr(C)]
@@ -11,7 +11,7 @@ pub struct PairFlows {
 
 // The only two functions that reach the field: their proofs walk the code by hand.
 pub fn from_rows(g: [[u32; 4]; 4]) -> PairFlows
-    ensures { result ≡ pairFlows g }
+    ensures { result ≡ pair_flows g }
 {
     PairFlows { rows: g }
 }

@@ -1,9 +1,9 @@
 // Platoon discharge: what one signalised entry sends into the segment in each step of a cycle.
 ghost use Rattle.std.specs.Prelude.{◌≡◌, ◌+◌, ◌*◌, ◌/◌, ◌≤◌, ◌<◌, length, replicate};
-ghost use Rattle.limits.specs.Limits.{entryLimit, flowLimit, mostArriving, stepBound};
+ghost use Rattle.limits.specs.Limits.{entry_limit, flow_limit, most_arriving, step_bound};
 ghost use Rattle.signal.specs.Greens.{GreenFits};
 ghost use Rattle.signal.specs.Landing.{added};
-ghost use Rattle.platoon.specs.Discharge.{cycleBound, greenFlows, profileOf, queueOf, servedOf};
+ghost use Rattle.platoon.specs.Discharge.{cycle_bound, green_flows, profile_of, queue_of, served_of};
 
 use movements::flow_units;
 use signal::Green;
@@ -24,7 +24,7 @@ pub struct Served {
 }
 
 fn serve(queue: u64, rate: u32) -> Served
-    ensures { result ≡ servedOf queue rate }
+    ensures { result ≡ served_of queue rate }
 {
     let most = rate as u64;
     if queue < most {
@@ -41,7 +41,7 @@ fn serve(queue: u64, rate: u32) -> Served
 
 // What has arrived on green by the end of the step after those that are gone.
 fn arrived(gone: u32, arriving: u64, g: u32) -> u64
-    requires { (gone < g) × (g < stepBound) × (arriving ≤ cycleBound) }
+    requires { (gone < g) × (g < step_bound) × (arriving ≤ cycle_bound) }
     ensures { result ≡ (gone + 1) * arriving / g }
 {
     ((gone + 1) as u64) * arriving / (g as u64)
@@ -49,10 +49,10 @@ fn arrived(gone: u32, arriving: u64, g: u32) -> u64
 
 // Serves the queue step by step of the green, into an empty cycle.
 fn release(green: Green, queue: Queue, run: &mut [u32])
-    requires run_len_bound { (length run.old < stepBound) × GreenFits (length run.old) green }
-    requires waiting_le_cycle_bound { (queue.waiting ≤ cycleBound) × (queue.arriving ≤ cycleBound) }
+    requires run_len_bound { (length run.old < step_bound) × GreenFits (length run.old) green }
+    requires waiting_le_cycle_bound { (queue.waiting ≤ cycle_bound) × (queue.arriving ≤ cycle_bound) }
     requires run_value { run.old ≡ replicate (length run.old) 0 }
-    ensures { run.new ≡ added (length run.old) green.start.0 1 (greenFlows green.steps queue) run.old }
+    ensures { run.new ≡ added (length run.old) green.start.0 1 (green_flows green.steps queue) run.old }
 {
     let c = run.len() as u32;
     let g = green.steps;
@@ -72,8 +72,8 @@ fn release(green: Green, queue: Queue, run: &mut [u32])
 
 // The queue of a cycle of c steps at a discharge volume: what does not arrive on green waits when green starts.
 fn queue_of(c: u32, saturation: u32, arriving: u32, volume: u32) -> Queue
-    requires { (c < stepBound) × (saturation ≤ flowLimit) × (arriving ≤ mostArriving) × (volume ≤ entryLimit) }
-    ensures { result ≡ queueOf c saturation arriving volume }
+    requires { (c < step_bound) × (saturation ≤ flow_limit) × (arriving ≤ most_arriving) × (volume ≤ entry_limit) }
+    ensures { result ≡ queue_of c saturation arriving volume }
 {
     let all = (flow_units(volume) as u64) * (c as u64);
     let on_green = all * (arriving as u64) / 1000;
@@ -86,9 +86,9 @@ fn queue_of(c: u32, saturation: u32, arriving: u32, volume: u32) -> Queue
 
 // Writes an entry's discharge profile over a run of the cycle's length.
 pub fn discharge_profile(green: Green, saturation: u32, arriving: u32, volume: u32, run: &mut [u32])
-    requires run_len_bound { (length run.old < stepBound) × GreenFits (length run.old) green }
-    requires saturation_le_flow_limit { (saturation ≤ flowLimit) × (arriving ≤ mostArriving) × (volume ≤ entryLimit) }
-    ensures { run.new ≡ profileOf (length run.old) green saturation arriving volume }
+    requires run_len_bound { (length run.old < step_bound) × GreenFits (length run.old) green }
+    requires saturation_le_flow_limit { (saturation ≤ flow_limit) × (arriving ≤ most_arriving) × (volume ≤ entry_limit) }
+    ensures { run.new ≡ profile_of (length run.old) green saturation arriving volume }
 {
     runs::fill(run, 0);
     let queue = queue_of(run.len() as u32, saturation, arriving, volume);

@@ -5,9 +5,9 @@ use mathlib.Core.Path.{◌≡◌}
 use mathlib.Core.List.{List, ◌++◌}
 use lib.ListN.{length, take, length-append}
 use lib.Seq.{take_at}
-use Rattle.limits.specs.Limits.{mostCycle}
+use Rattle.limits.specs.Limits.{most_cycle}
 use Rattle.segment.specs.declared.Segment.{Segment}
-use Rattle.entries.specs.Entries.{entryProfiles}
+use Rattle.entries.specs.Entries.{entry_profiles}
 use Rattle.entries.specs.Laws.{entry_runs}
 use Rattle.points.specs.declared.Points.{Points}
 use Rattle.point_filling.specs.Steps.{FillFits, EachFits}
@@ -17,14 +17,14 @@ pub array_long : {n : ℕ} (made rest : List ℕ) → length made ≡ n → n �
 array_long made rest whole = simp length-append (omega arith)
 
 -- room for three runs of the longest cycle
-abbrev dischargeRoom : ℕ
-dischargeRoom = 3 * mostCycle
+abbrev discharge_room : ℕ
+discharge_room = 3 * most_cycle
 
-module _ (made rest : List ℕ) (whole : length made ≡ dischargeRoom) where
-  pub discharging : {s : Segment} {ps : Points} {out : List ℕ} → FillFits s ps out → (array : List ℕ) → made ≡ entryProfiles s array →
-      EachFits s ps (take dischargeRoom (made ++ rest)) out
+module _ (made rest : List ℕ) (whole : length made ≡ discharge_room) where
+  pub discharging : {s : Segment} {ps : Points} {out : List ℕ} → FillFits s ps out → (array : List ℕ) → made ≡ entry_profiles s array →
+      EachFits s ps (take discharge_room (made ++ rest)) out
   discharging {s} h array is =
-      rw (take_at made rest dischargeRoom whole)
+      rw (take_at made rest discharge_room whole)
       (record {
         discharged = record {
           ranges = h.ranges;

@@ -6,23 +6,23 @@ use mathlib.Core.Path.{◌≡◌, sym, ◌∙◌}
 use mathlib.Core.List.{List, ◌++◌, append_assoc}
 use lib.ListN.{length, take, drop, get_or, replicate, length-append}
 use lib.Seq.{take_at}
-use Rattle.limits.specs.Limits.{mostRunning, stepBound}
-use Rattle.lists.specs.Lists.{tab, tab-length, tab-each-le, tab-constant}
-use Rattle.movements.specs.Movements.{flowUnits}
+use Rattle.limits.specs.Limits.{most_running, step_bound}
+use Rattle.lists.specs.Lists.{tab, tab_length, tab_each_le, tab_constant}
+use Rattle.movements.specs.Movements.{flow_units}
 use Rattle.signal.specs.Turn.{earlier}
-use Rattle.signal.specs.Landing.{landing_is, added, added-tab}
+use Rattle.signal.specs.Landing.{landing_is, added, added_tab}
 use Rattle.segment.specs.declared.Entry.{Entry}
 use Rattle.segment.specs.declared.Segment.{Segment}
 use Rattle.ranges.specs.Ranges.{Ranges, EntryRanges}
-use Rattle.entries.specs.Entries.{entryProfile, EntryRuns}
-use Rattle.entries.specs.Laws.{entry_length, entry-le}
-use Rattle.dispersion.specs.Dispersion.{arrivalTimeOf, reported, held}
-use Rattle.dispersion.specs.Arrivals.{arrival-time-small}
-use Rattle.dispersion.specs.Cycles.{reported-length, reported-le}
-use Rattle.arrivals.specs.Arrivals.{arrivalLimit, runLimit, LandsFit}
-use Rattle.propagation.specs.Propagation.{cyclesBefore, cycles}
+use Rattle.entries.specs.Entries.{entry_profile, EntryRuns}
+use Rattle.entries.specs.Laws.{entry_length, entry_le}
+use Rattle.dispersion.specs.Dispersion.{arrival_time_of, reported, held}
+use Rattle.dispersion.specs.Arrivals.{arrival_time_small}
+use Rattle.dispersion.specs.Cycles.{reported_length, reported_le}
+use Rattle.arrivals.specs.Arrivals.{arrival_limit, run_limit, LandsFit}
+use Rattle.propagation.specs.Propagation.{cycles_before, cycles}
 use Rattle.points.specs.declared.Point.{Point}
-use Rattle.point_flows.specs.PointFlows.{pointArrivals, passesIn, pointFlow, pointRun}
+use Rattle.point_flows.specs.PointFlows.{point_arrivals, passes_in, point_flow, point_run}
 use Rattle.point_filling.specs.Steps.{PassFits}
 
 -- ---- one entry
@@ -30,44 +30,44 @@ use Rattle.point_filling.specs.Steps.{PassFits}
 -- in front of the array after its cycles were worked there: x is what the array was lent with, rest what stands behind
 module _ (running : ℕ) (q x : List ℕ) {ys : List ℕ} (made : ys ≡ held running q cycles x) (rest : List ℕ) where
   long : length (reported running q cycles) ≡ length q
-  long = reported-length running q cyclesBefore
+  long = reported_length running q cycles_before
 
   pub front_long : length q ≤ length (ys ++ rest)
   front_long = rw made (simp length-append (omega (arith, long)))
 
-  part-is : take (length q - 0) (ys ++ rest) ≡ reported running q cycles
-  part-is = rw (made, sub-zero, append_assoc) (take_at (reported running q cycles) (drop (length q) x ++ rest) (length q) long)
+  part_is : take (length q - 0) (ys ++ rest) ≡ reported running q cycles
+  part_is = rw (made, sub-zero, append_assoc) (take_at (reported running q cycles) (drop (length q) x ++ rest) (length q) long)
 
-  pub pass-lands : {t : ℕ} → t ≡ arrivalTimeOf running → {run : List ℕ} → PassFits running q run → LandsFit t (take (length q - 0) (ys ++ rest)) run
-  pass-lands time h =
-      rw (part-is, time)
+  pub pass_lands : {t : ℕ} → t ≡ arrival_time_of running → {run : List ℕ} → PassFits running q run → LandsFit t (take (length q - 0) (ys ++ rest)) run
+  pass_lands time h =
+      rw (part_is, time)
       (record {
         long = long ∙ h.long;
         some = h.some;
         cycle = h.cycle;
-        time = arrival-time-small running h.time;
-        arrivals = reported-le running arrivalLimit q cycles h.small;
+        time = arrival_time_small running h.time;
+        arrivals = reported_le running arrival_limit q cycles h.small;
         small = h.sums;
       })
 
-  pub pass-done : {t : ℕ} → t ≡ arrivalTimeOf running → (run : List ℕ) {run' : List ℕ} → run' ≡ added (length run) t 1 (take (length q - 0) (ys ++ rest)) run →
-      run' ≡ added (length run) (arrivalTimeOf running) 1 (reported running q cycles) run
-  pass-done time run er = er ∙ rw (part-is, time)
+  pub pass_done : {t : ℕ} → t ≡ arrival_time_of running → (run : List ℕ) {run' : List ℕ} → run' ≡ added (length run) t 1 (take (length q - 0) (ys ++ rest)) run →
+      run' ≡ added (length run) (arrival_time_of running) 1 (reported running q cycles) run
+  pass_done time run er = er ∙ rw (part_is, time)
 
 -- ---- the three discharges, as a point takes them
 
 module _ (s : Segment) {discharges : List ℕ} (h : EntryRuns s discharges) where
-  pub left-run : take (s.cycle - 0) discharges ≡ entryProfile s.cycle s.left
-  left-run = let z : 0 * s.cycle ≡ 0 = omega arith in rw sub-zero (rw z at h.left)
+  pub left_run : take (s.cycle - 0) discharges ≡ entry_profile s.cycle s.left
+  left_run = let z : 0 * s.cycle ≡ 0 = omega arith in rw sub-zero (rw z at h.left)
 
-  pub through-run : take (s.cycle + s.cycle - s.cycle) (drop s.cycle discharges) ≡ entryProfile s.cycle s.through
-  through-run =
+  pub through_run : take (s.cycle + s.cycle - s.cycle) (drop s.cycle discharges) ≡ entry_profile s.cycle s.through
+  through_run =
       let z : 1 * s.cycle ≡ s.cycle = omega arith in
       let w : s.cycle + s.cycle - s.cycle ≡ s.cycle = omega arith in
       rw w (rw z at h.through)
 
-  pub right-run : take (s.cycle + s.cycle + s.cycle - (s.cycle + s.cycle)) (drop (s.cycle + s.cycle) discharges) ≡ entryProfile s.cycle s.right
-  right-run =
+  pub right_run : take (s.cycle + s.cycle + s.cycle - (s.cycle + s.cycle)) (drop (s.cycle + s.cycle) discharges) ≡ entry_profile s.cycle s.right
+  right_run =
       let z : 2 * s.cycle ≡ s.cycle + s.cycle = omega arith in
       let w : s.cycle + s.cycle + s.cycle - (s.cycle + s.cycle) ≡ s.cycle = omega arith in
       rw w (rw z at h.right)
@@ -80,56 +80,56 @@ pub record Passing (s : Segment) (b : ℕ) (r : ℕ → ℕ) (run : List ℕ) : 
   pub small : (step : ℕ) → 0 < step → step ≤ s.cycle → r step ≤ b
 
 -- access begins it
-pub passing-start : (s : Segment) {units n : ℕ} {run : List ℕ} → units ≡ flowUnits s.access → n ≡ s.cycle → run ≡ replicate n units →
-    Passing s (flowUnits s.access) (λ step. flowUnits s.access) run
-passing-start s eu en e =
-    record { is = e ∙ rw (eu, en) (tab-constant (flowUnits s.access) 1 s.cycle); small = λ step low high. omega arith }
+pub passing_start : (s : Segment) {units n : ℕ} {run : List ℕ} → units ≡ flow_units s.access → n ≡ s.cycle → run ≡ replicate n units →
+    Passing s (flow_units s.access) (λ step. flow_units s.access) run
+passing_start s eu en e =
+    record { is = e ∙ rw (eu, en) (tab_constant (flow_units s.access) 1 s.cycle); small = λ step low high. omega arith }
 
 module _ {s : Segment} {b : ℕ} {r : ℕ → ℕ} {run : List ℕ} (h : Passing s b r run) where
-  passing-length : length run ≡ s.cycle
-  passing-length = rw h.is (tab-length r 1 s.cycle)
+  passing_length : length run ≡ s.cycle
+  passing_length = rw h.is (tab_length r 1 s.cycle)
 
-  passing-le : (k : ℕ) → get_or run k 0 ≤ b
-  passing-le = rw h.is (tab-each-le b r 1 s.cycle (λ step first last. h.small step first (omega arith)))
+  passing_le : (k : ℕ) → get_or run k 0 ≤ b
+  passing_le = rw h.is (tab_each_le b r 1 s.cycle (λ step first last. h.small step first (omega arith)))
 
-  pub passing-short : Ranges s → length run < stepBound
-  passing-short ranges = omega (arith, passing-length, ranges.cycle)
+  pub passing_short : Ranges s → length run < step_bound
+  passing_short ranges = omega (arith, passing_length, ranges.cycle)
 
   -- what the next entry asks
-  pub passing-fits : b ≤ runLimit → Ranges s → {e : Entry} → EntryRanges s.cycle e → (running : ℕ) → running ≤ mostRunning →
-      {q : List ℕ} → q ≡ entryProfile s.cycle e → PassFits running q run
-  passing-fits hb ranges {e} er running ht eq =
-      let l = passing-length in
+  pub passing_fits : b ≤ run_limit → Ranges s → {e : Entry} → EntryRanges s.cycle e → (running : ℕ) → running ≤ most_running →
+      {q : List ℕ} → q ≡ entry_profile s.cycle e → PassFits running q run
+  passing_fits hb ranges {e} er running ht eq =
+      let l = passing_length in
       rw eq
       (record {
         time = ht;
         some = omega (arith, ranges.cycle);
         cycle = omega (arith, ranges.cycle);
         long = entry_length s.cycle e ∙ sym l;
-        small = entry-le s.cycle e er;
-        sums = λ k. omega (arith, passing-le k);
+        small = entry_le s.cycle e er;
+        sums = λ k. omega (arith, passing_le k);
       })
 
   -- and what it leaves
-  pub passing-entry : Ranges s → {e : Entry} → EntryRanges s.cycle e → (p : Point) {q : List ℕ} → q ≡ entryProfile s.cycle e → {run' : List ℕ} →
-      run' ≡ added (length run) (arrivalTimeOf p.running) 1 (reported p.running q cycles) run →
-      Passing s (b + arrivalLimit) (λ step. r step + passesIn s p e step) run'
-  unfolding passesIn pointArrivals
-  passing-entry ranges {e} er p eq is =
+  pub passing_entry : Ranges s → {e : Entry} → EntryRanges s.cycle e → (p : Point) {q : List ℕ} → q ≡ entry_profile s.cycle e → {run' : List ℕ} →
+      run' ≡ added (length run) (arrival_time_of p.running) 1 (reported p.running q cycles) run →
+      Passing s (b + arrival_limit) (λ step. r step + passes_in s p e step) run'
+  unfolding passes_in point_arrivals
+  passing_entry ranges {e} er p eq is =
       let c = s.cycle in
-      let t = arrivalTimeOf p.running in
-      let q = entryProfile c e in
+      let t = arrival_time_of p.running in
+      let q = entry_profile c e in
       let arrivals = reported p.running q cycles in
       record {
-        is = is ∙ rw (eq, passing-length, h.is) (added-tab c t r arrivals (omega (arith, ranges.cycle)));
+        is = is ∙ rw (eq, passing_length, h.is) (added_tab c t r arrivals (omega (arith, ranges.cycle)));
         small = λ step low high.
-            rw (landing_is c t step arrivals low high (omega (arith, reported-length p.running q cyclesBefore, entry_length c e)))
-            (omega (arith, h.small step low high, reported-le p.running arrivalLimit q cycles (entry-le c e er) (earlier c t step - 1)));
+            rw (landing_is c t step arrivals low high (omega (arith, reported_length p.running q cycles_before, entry_length c e)))
+            (omega (arith, h.small step low high, reported_le p.running arrival_limit q cycles (entry_le c e er) (earlier c t step - 1)));
       }
 
 -- all three
-pub passing-all : {s : Segment} {b : ℕ} (p : Point) {run : List ℕ} →
-    Passing s b (λ step. flowUnits s.access + passesIn s p s.left step + passesIn s p s.through step + passesIn s p s.right step) run →
-    run ≡ pointRun s p
-unfolding pointRun pointFlow
-passing-all p h = h.is
+pub passing_all : {s : Segment} {b : ℕ} (p : Point) {run : List ℕ} →
+    Passing s b (λ step. flow_units s.access + passes_in s p s.left step + passes_in s p s.through step + passes_in s p s.right step) run →
+    run ≡ point_run s p
+unfolding point_run point_flow
+passing_all p h = h.is

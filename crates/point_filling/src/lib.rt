@@ -1,10 +1,10 @@
 // Filling the point profiles of an accepted segment: the flow that passes each point, and its blocked steps.
 ghost use Rattle.std.specs.Prelude.{◌≡◌, length};
 ghost use Rattle.signal.specs.Landing.{added};
-ghost use Rattle.dispersion.specs.Dispersion.{arrivalTimeOf, reported};
+ghost use Rattle.dispersion.specs.Dispersion.{arrival_time_of, reported};
 ghost use Rattle.propagation.specs.Propagation.{cycles};
 ghost use Rattle.points.specs.Points.{given};
-ghost use Rattle.point_flows.specs.PointFlows.{pointRun, pointBlocked, pointRuns, pointCounts};
+ghost use Rattle.point_flows.specs.PointFlows.{point_run, point_blocked, point_runs, point_counts};
 ghost use Rattle.point_filling.specs.Steps.{PassFits, PointFits, EachFits, FillFits};
 
 use points::{Point, Points};
@@ -15,7 +15,7 @@ use segment::Segment;
 fn pass(running: u32, discharge: &[u32], run: &mut [u32])
     requires { PassFits running discharge.now run.old }
     ensures { run.new
-        ≡ added (length run.old) (arrivalTimeOf running) 1 (reported running discharge.now cycles) run.old }
+        ≡ added (length run.old) (arrival_time_of running) 1 (reported running discharge.now cycles) run.old }
 {
     let c = discharge.len();
     let cycles = propagation::CYCLES;
@@ -27,8 +27,8 @@ fn pass(running: u32, discharge: &[u32], run: &mut [u32])
 // One point: access begins its run, then each signalised entry passes. Its blocked steps, by its own headway.
 fn fill_point(s: Segment, p: Point, discharges: &[u32], run: &mut [u32]) -> u32
     requires { PointFits s p discharges.now run.old }
-    ensures run_after { run.new ≡ pointRun s p }
-    ensures value { result ≡ pointBlocked s p }
+    ensures run_after { run.new ≡ point_run s p }
+    ensures value { result ≡ point_blocked s p }
 {
     let one = s.cycle as usize;
     let two = one + one;
@@ -48,8 +48,8 @@ fn fill_each(
     out: &mut [u32],
 ) -> [u32; points::POINT_ROOM]
     requires { EachFits s points discharges.now out.old }
-    ensures out_after { out.new ≡ pointRuns s (given points) out.old }
-    ensures value { result ≡ pointCounts s (given points) }
+    ensures out_after { out.new ≡ point_runs s (given points) out.old }
+    ensures value { result ≡ point_counts s (given points) }
 {
     let c = s.cycle as usize;
     let at = points.at;
@@ -68,8 +68,8 @@ fn fill_each(
 // not at all where none is given.
 pub fn fill(s: Segment, points: Points, out: &mut [u32]) -> [u32; points::POINT_ROOM]
     requires { FillFits s points out.old }
-    ensures out_after { out.new ≡ pointRuns s (given points) out.old }
-    ensures value { result ≡ pointCounts s (given points) }
+    ensures out_after { out.new ≡ point_runs s (given points) out.old }
+    ensures value { result ≡ point_counts s (given points) }
 {
     if points.count == 0 {
         return [0u32; points::POINT_ROOM];

@@ -7,112 +7,112 @@ use lib.Dec.{leb}
 use lib.Ieee.{Float}
 use lib.ListN.{length}
 use borrow.Author.Tests.{leb-true}
-use Rattle.refusal.specs.Refusal.{Or, ok, false-true, both}
+use Rattle.refusal.specs.Refusal.{Or, ok, false_true, both}
 use Rattle.segment.specs.declared.Segment.{Segment}
 use Rattle.ranges.specs.Ranges.{Ranges}
 use Rattle.validation.specs.declared.Checked.TheVariants as checked
-use Rattle.validation.specs.Validation.{checkedOf}
+use Rattle.validation.specs.Validation.{checked_of}
 use Rattle.validation.specs.Accepted.{Accepted}
-use Rattle.validation.specs.Accepting.{checked_refused, checked-valid, accept-passed}
+use Rattle.validation.specs.Accepting.{checked_refused, checked_valid, accept_passed}
 use Rattle.balance_decision.specs.declared.Outcome.{Outcome}
 use Rattle.balance_decision.specs.declared.Outcome.TheVariants.{Worked, Refused, Unsettled}
 use Rattle.propagation.specs.Propagation.{Profiles}
 use Rattle.accuracy.specs.Accuracy.{Accurate}
 use Rattle.working_outcome.specs.declared.Working.{Working}
-use Rattle.working_outcome.specs.Answer.{refusedWith}
-use Rattle.working.specs.Working.{fits, decisionFor, Called, called, byDecision}
-use Rattle.working.specs.Decided.{fits-room, decided-accurate, own-case}
+use Rattle.working_outcome.specs.Answer.{refused_with}
+use Rattle.working.specs.Working.{fits, decision_for, Called, called, by_decision}
+use Rattle.working.specs.Decided.{fits_room, decided_accurate, own_case}
 use Rattle.points.specs.declared.Points.{Points}
-use Rattle.points.specs.Points.{mostPoints, given}
-use Rattle.point_flows.specs.PointFlows.{pointRuns, pointCounts}
+use Rattle.points.specs.Points.{most_points, given}
+use Rattle.point_flows.specs.PointFlows.{point_runs, point_counts}
 use Rattle.point_filling.specs.Steps.{FillFits}
 use Rattle.point_flows.specs.PointAccuracy.{PointsAccurate}
-use Rattle.point_flows.specs.Holds.{points-accurate}
+use Rattle.point_flows.specs.Holds.{points_accurate}
 use Rattle.point_working.specs.declared.PointWorking.{PointWorking}
-use Rattle.point_working.specs.PointWorking.{acceptOf, noneBlocked, answered, PointCalled, pointCalled, passingAfter, countsAfter, withPoints}
-use Rattle.point_working.specs.PointWorking.{pointCallOf, PointWorks}
+use Rattle.point_working.specs.PointWorking.{accept_of, none_blocked, answered, PointCalled, point_called, passing_after, counts_after, with_points}
+use Rattle.point_working.specs.PointWorking.{point_call_of, PointWorks}
 use Rattle.point_working.specs.Steps.{Accepts}
 
 -- ---- the points, by the outcome
 
 module _ (s : Segment) (ps : Points) (q : List ℕ) {o : Outcome} where
-  pub points-worked : (x : Float) → o ≡ Worked x → {q' counts : List ℕ} → q' ≡ pointRuns s (given ps) q → counts ≡ pointCounts s (given ps) →
-      (q' ≡ passingAfter o s ps q) × (counts ≡ countsAfter o s ps)
-  points-worked x e eq ec = rw e (eq, ec)
+  pub points_worked : (x : Float) → o ≡ Worked x → {q' counts : List ℕ} → q' ≡ point_runs s (given ps) q → counts ≡ point_counts s (given ps) →
+      (q' ≡ passing_after o s ps q) × (counts ≡ counts_after o s ps)
+  points_worked x e eq ec = rw e (eq, ec)
 
-  pub points-refused : (n : ℕ) → o ≡ Refused n → (q ≡ passingAfter o s ps q) × (noneBlocked ≡ countsAfter o s ps)
-  points-refused n e = rw e (refl, refl)
+  pub points_refused : (n : ℕ) → o ≡ Refused n → (q ≡ passing_after o s ps q) × (none_blocked ≡ counts_after o s ps)
+  points_refused n e = rw e (refl, refl)
 
-  pub points-unsettled : (x : Float) → o ≡ Unsettled x → (q ≡ passingAfter o s ps q) × (noneBlocked ≡ countsAfter o s ps)
-  points-unsettled x e = rw e (refl, refl)
+  pub points_unsettled : (x : Float) → o ≡ Unsettled x → (q ≡ passing_after o s ps q) × (none_blocked ≡ counts_after o s ps)
+  points_unsettled x e = rw e (refl, refl)
 
 -- ---- a working that was called, and its points
 
-pub worked-is : (s : Segment) (ps : Points) (q : List ℕ) {c : Called} {w : Working} {p' : Profiles} → called w p' ≡ c → {counts q' : List ℕ} →
-    counts ≡ countsAfter w.outcome s ps → q' ≡ passingAfter w.outcome s ps q → pointCalled (answered w counts) p' q' ≡ withPoints s ps c q
-worked-is s ps q is ec eq = rw (ec, eq) (ap (λ (d : Called). withPoints s ps d q) is)
+pub worked_is : (s : Segment) (ps : Points) (q : List ℕ) {c : Called} {w : Working} {p' : Profiles} → called w p' ≡ c → {counts q' : List ℕ} →
+    counts ≡ counts_after w.outcome s ps → q' ≡ passing_after w.outcome s ps q → point_called (answered w counts) p' q' ≡ with_points s ps c q
+worked_is s ps q is ec eq = rw (ec, eq) (ap (λ (d : Called). with_points s ps d q) is)
 
 -- ---- what a call that works has left
 
 module _ (s : Segment) (ps : Points) (p : Profiles) (q : List ℕ) (r : PointWorking) (p' : Profiles) (q' : List ℕ)
-    (e : pointCalled r p' q' ≡ withPoints s ps (byDecision s (decisionFor s) p) q) (x : Float) (worked : r.working.outcome ≡ Worked x) where
+    (e : point_called r p' q' ≡ with_points s ps (by_decision s (decision_for s) p) q) (x : Float) (worked : r.working.outcome ≡ Worked x) where
   -- the working beneath, as called
-  beneath : called r.working p' ≡ byDecision s (decisionFor s) p
+  beneath : called r.working p' ≡ by_decision s (decision_for s) p
   beneath = ap (λ (c : PointCalled). called c.answer.working c.after) e
 
-  accurate-exits : Ranges s → Accurate s r.working.pairs.rows p'
-  accurate-exits fits = decided-accurate s fits p r.working p' beneath x worked
+  accurate_exits : Ranges s → Accurate s r.working.pairs.rows p'
+  accurate_exits fits = decided_accurate s fits p r.working p' beneath x worked
 
-  runs-written : q' ≡ pointRuns s (given ps) q
-  runs-written =
-      let c = byDecision s (decisionFor s) p in
+  runs_written : q' ≡ point_runs s (given ps) q
+  runs_written =
+      let c = by_decision s (decision_for s) p in
       let o : c.answer.outcome ≡ Worked x = sym (ap (λ (d : Called). d.answer.outcome) beneath) ∙ worked in
-      ap (λ (d : PointCalled). d.passing) e ∙ ap (λ (u : Outcome). passingAfter u s ps q) o
+      ap (λ (d : PointCalled). d.passing) e ∙ ap (λ (u : Outcome). passing_after u s ps q) o
 
-  accurate-points : FillFits s ps q → ps.count ≤ length ps.at → PointsAccurate s ps q'
-  accurate-points h room = rw runs-written (points-accurate s ps q room h.ranges h.fit)
+  accurate_points : FillFits s ps q → ps.count ≤ length ps.at → PointsAccurate s ps q'
+  accurate_points h room = rw runs_written (points_accurate s ps q room h.ranges h.fit)
 
 -- ---- what the record, the points and the lengths decide
 
 module _ (l : List ℕ) (ps : Points) (p : Profiles) (q : List ℕ) where
   abbrev accepts : Or Segment
-  accepts = acceptOf l ps (length p.output) (length q) (length p.first) (length p.second)
+  accepts = accept_of l ps (length p.output) (length q) (length p.first) (length p.second)
 
   passed : (s : Segment) → accepts ≡ ok s → Accepted l s × Accepts s ps p q
   passed s e =
-      let a = accept-passed l _ s e in
+      let a = accept_passed l _ s e in
       let t = both (fits (length p.output) (length p.first) (length p.second) s) (leb (s.cycle * ps.count) (length q)) (a.1 16) in
-      let few = leb-true ps.count mostPoints (a.1 19) in
+      let few = leb-true ps.count most_points (a.1 19) in
       let points : FillFits s ps q = record { ranges = a.0.ranges; few = few; fit = a.1 20; room = leb-true _ _ t.1 } in
-      (a.0, record { ranges = a.0.ranges; room = fits-room s p t.0; points = points })
+      (a.0, record { ranges = a.0.ranges; room = fits_room s p t.0; points = points })
 
-  pub record-passed : (s : Segment) → checkedOf accepts ≡ checked.Valid s → Accepts s ps p q
-  record-passed s e = (passed s (checked-valid accepts s e)).1
+  pub record_passed : (s : Segment) → checked_of accepts ≡ checked.Valid s → Accepts s ps p q
+  record_passed s e = (passed s (checked_valid accepts s e)).1
 
   -- the call, worked or refused for its volumes
-  pub record-worked : length ps.at ≡ mostPoints → (s : Segment) → checkedOf accepts ≡ checked.Valid s → (r : PointWorking) (p' : Profiles) (q' : List ℕ) →
-      pointCalled r p' q' ≡ withPoints s ps (byDecision s (decisionFor s) p) q → PointWorks l ps p q r p' q'
-  unfolding pointCallOf
-  record-worked eight s v r p' q' e =
-      let a = checked-valid accepts s v in
+  pub record_worked : length ps.at ≡ most_points → (s : Segment) → checked_of accepts ≡ checked.Valid s → (r : PointWorking) (p' : Profiles) (q' : List ℕ) →
+      point_called r p' q' ≡ with_points s ps (by_decision s (decision_for s) p) q → PointWorks l ps p q r p' q'
+  unfolding point_call_of
+  record_worked eight s v r p' q' e =
+      let a = checked_valid accepts s v in
       let same = (passed s a).0.is in
       let h = (passed s a).1.points in
       let room : ps.count ≤ length ps.at = omega (arith, eight, h.few) in
       record {
         is = e ∙ rw a;
-        accurate = λ x o. subst (λ (u : Segment). Accurate u r.working.pairs.rows p') same (accurate-exits s ps p q r p' q' e x o h.ranges);
-        points = λ x o. subst (λ (u : Segment). PointsAccurate u ps q') same (accurate-points s ps p q r p' q' e x o h room);
+        accurate = λ x o. subst (λ (u : Segment). Accurate u r.working.pairs.rows p') same (accurate_exits s ps p q r p' q' e x o h.ranges);
+        points = λ x o. subst (λ (u : Segment). PointsAccurate u ps q') same (accurate_points s ps p q r p' q' e x o h room);
       }
 
   -- refused for its record, its points or a profile's length
-  pub record-refused : (n : ℕ) → checkedOf accepts ≡ checked.Refused n → {r : PointWorking} → r ≡ answered (refusedWith (Refused n)) noneBlocked →
+  pub record_refused : (n : ℕ) → checked_of accepts ≡ checked.Refused n → {r : PointWorking} → r ≡ answered (refused_with (Refused n)) none_blocked →
       PointWorks l ps p q r p q
-  unfolding pointCallOf
-  record-refused n v {r} is =
+  unfolding point_call_of
+  record_refused n v {r} is =
       let a = checked_refused accepts n v in
-      let none : (x : Float) → r.working.outcome ≡ Worked x → ⊥ = λ x o. false-true (cc (ap (λ (u : PointWorking). u.working.outcome) is)) in
+      let none : (x : Float) → r.working.outcome ≡ Worked x → ⊥ = λ x o. false_true (cc (ap (λ (u : PointWorking). u.working.outcome) is)) in
       record {
-        is = rw (a, own-case l _ (λ s. refl) n a) (ap (λ (u : PointWorking). pointCalled u p q) is);
+        is = rw (a, own_case l _ (λ s. refl) n a) (ap (λ (u : PointWorking). point_called u p q) is);
         accurate = λ x o. absurd (none x o);
         points = λ x o. absurd (none x o);
       }

@@ -1,13 +1,13 @@
 // The working of a segment record with points along it: everything is decided first, then the four lent profiles are filled.
 ghost use Rattle.std.specs.Prelude.{◌≡◌};
-ghost use Rattle.validation.specs.Validation.{checkedOf};
+ghost use Rattle.validation.specs.Validation.{checked_of};
 ghost use Rattle.propagation.specs.Propagation.{lent};
 ghost use Rattle.balance_decision.specs.declared.Outcome.TheVariants.{Refused};
-ghost use Rattle.working_outcome.specs.Answer.{refusedWith};
-ghost use Rattle.working.specs.Working.{byDecision, decisionFor};
+ghost use Rattle.working_outcome.specs.Answer.{refused_with};
+ghost use Rattle.working.specs.Working.{by_decision, decision_for};
 ghost use Rattle.point_filling.specs.Steps.{FillFits};
-ghost use Rattle.point_working.specs.PointWorking.{acceptOf, answered, noneBlocked, pointCalled};
-ghost use Rattle.point_working.specs.PointWorking.{passingAfter, countsAfter, withPoints, PointWorks};
+ghost use Rattle.point_working.specs.PointWorking.{accept_of, answered, none_blocked, point_called};
+ghost use Rattle.point_working.specs.PointWorking.{passing_after, counts_after, with_points, PointWorks};
 ghost use Rattle.point_working.specs.Steps.{Accepts};
 
 use balance_decision::Outcome;
@@ -32,7 +32,7 @@ fn accept(
     first: usize,
     second: usize,
 ) -> Checked
-    ensures { result ≡ checkedOf (acceptOf bytes.now points output passing first second) }
+    ensures { result ≡ checked_of (accept_of bytes.now points output passing first second) }
 {
     let checked = validation::check(bytes);
     match checked {
@@ -65,8 +65,8 @@ fn fill_worked(
     passing: &mut [u32],
 ) -> [u32; points::POINT_ROOM]
     requires { FillFits s points passing.old }
-    ensures passing_after { passing.new ≡ passingAfter outcome s points passing.old }
-    ensures value { result ≡ countsAfter outcome s points }
+    ensures passing_after { passing.new ≡ passing_after outcome s points passing.old }
+    ensures value { result ≡ counts_after outcome s points }
 {
     match outcome {
         Outcome::Worked(_) => point_filling::fill(s, points, passing),
@@ -85,8 +85,8 @@ fn work_accepted(
     second: &mut [u32],
 ) -> PointWorking
     requires { Accepts s points (lent output first second) passing.old }
-    ensures { pointCalled result (lent output.exit first.exit second.exit) passing.new
-        ≡ withPoints s points (byDecision s (decisionFor s) (lent output.entry first.entry second.entry)) passing.old }
+    ensures { point_called result (lent output.exit first.exit second.exit) passing.new
+        ≡ with_points s points (by_decision s (decision_for s) (lent output.entry first.entry second.entry)) passing.old }
 {
     let working = working::work_accepted(s, output, first, second);
     let outcome = working.outcome;
@@ -96,7 +96,7 @@ fn work_accepted(
 
 // A refusal: no point is counted.
 fn refused(n: u32) -> PointWorking
-    ensures { result ≡ answered (refusedWith (Refused n)) noneBlocked }
+    ensures { result ≡ answered (refused_with (Refused n)) none_blocked }
 {
     PointWorking {
         working: working_outcome::refused(Outcome::Refused(n)),

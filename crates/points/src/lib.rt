@@ -1,6 +1,6 @@
 // Points along a segment at which a working is asked for the flow that passes: which are given, and their test.
 ghost use Rattle.std.specs.Prelude.{◌≡◌, ◌≤◌};
-ghost use Rattle.points.specs.Points.{mostPoints, given, pointFits, all_fit};
+ghost use Rattle.points.specs.Points.{most_points, given, point_fits, all_fit};
 
 // A working takes up to so many, and has a place for each.
 pub const MOST_POINTS: u32 = 8;
@@ -25,7 +25,7 @@ pub struct Points {
 
 // Whether a point lies on a segment of that running time, and its headway in the record's range.
 fn point_fits(farthest: u32, p: Point) -> bool
-    ensures { result ≡ pointFits farthest p }
+    ensures { result ≡ point_fits farthest p }
 {
     (limits::LEAST_RUNNING <= p.running)
         & (p.running <= farthest)
@@ -35,7 +35,7 @@ fn point_fits(farthest: u32, p: Point) -> bool
 
 // Whether each of the points given does.
 pub fn all_fit(farthest: u32, points: Points) -> bool
-    requires { points.count ≤ mostPoints }
+    requires { points.count ≤ most_points }
     ensures { result ≡ all_fit farthest (given points) }
 {
     let at = points.at;

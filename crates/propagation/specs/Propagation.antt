@@ -4,11 +4,11 @@ use Rattle.std.specs.Borrow.{Bor}
 use Rattle.signal.specs.Landing.{landing}
 use Rattle.segment.specs.declared.Entry.{Entry}
 use Rattle.segment.specs.declared.Segment.{Segment}
-use Rattle.metering.specs.Metering.{dischargeUnits}
-use Rattle.entries.specs.Entries.{entryProfile}
-use Rattle.dispersion.specs.Dispersion.{arrivalTimeOf, reported}
-use Rattle.pair_parts.specs.PairParts.{pairArrivals}
-use Rattle.arrivals.specs.Arrivals.{fourRuns}
+use Rattle.metering.specs.Metering.{discharge_units}
+use Rattle.entries.specs.Entries.{entry_profile}
+use Rattle.dispersion.specs.Dispersion.{arrival_time_of, reported}
+use Rattle.pair_parts.specs.PairParts.{pair_arrivals}
+use Rattle.arrivals.specs.Arrivals.{four_runs}
 
 -- the three lent profiles
 pub record Profiles : Type 0 where
@@ -24,41 +24,41 @@ abbrev pub lent : (output first second : Bor (List ℕ)) → Profiles
 lent output first second = profiles output.now first.now second.now
 
 -- sixty-four cycles are worked before the reported one, sixty-five in all
-abbrev pub cyclesBefore : ℕ
-cyclesBefore = 64
+abbrev pub cycles_before : ℕ
+cycles_before = 64
 
 abbrev pub cycles : ℕ
-cycles = suc cyclesBefore
+cycles = suc cycles_before
 
 -- the pair flow v of an entry and an exit, each counted from 0
-abbrev pub pairFlow : List (List ℕ) → ℕ → ℕ → ℕ
-pairFlow rows i j = get_or (get_or rows i []) j 0
+abbrev pub pair_flow : List (List ℕ) → ℕ → ℕ → ℕ
+pair_flow rows i j = get_or (get_or rows i []) j 0
 
 -- an entry's arrivals in the reported cycle, by discharge step
-unfoldable pub entryArrivals : Segment → Entry → List ℕ
-entryArrivals s e = reported s.running (entryProfile s.cycle e) cycles
+unfoldable pub entry_arrivals : Segment → Entry → List ℕ
+entry_arrivals s e = reported s.running (entry_profile s.cycle e) cycles
 
 -- what of them goes to the exit that has v of the entry's flow units
 unfoldable pub pair_of : Segment → Entry → ℕ → List ℕ
-pair_of s e v = pairArrivals v (dischargeUnits s.cycle e) (entryArrivals s e)
+pair_of s e v = pair_arrivals v (discharge_units s.cycle e) (entry_arrivals s e)
 
 -- what of it lands in a step
-unfoldable pub landsIn : Segment → Entry → ℕ → ℕ → ℕ
-landsIn s e v step = landing s.cycle (arrivalTimeOf s.running) step 1 (pair_of s e v)
+unfoldable pub lands_in : Segment → Entry → ℕ → ℕ → ℕ
+lands_in s e v step = landing s.cycle (arrival_time_of s.running) step 1 (pair_of s e v)
 
 -- an exit's flow in a step: access adds its v in every step
-unfoldable pub flowAt : Segment → List (List ℕ) → ℕ → ℕ → ℕ
-flowAt s rows exit step =
-    pairFlow rows 3 exit
-    + landsIn s s.left (pairFlow rows 0 exit) step
-    + landsIn s s.through (pairFlow rows 1 exit) step
-    + landsIn s s.right (pairFlow rows 2 exit) step
+unfoldable pub flow_at : Segment → List (List ℕ) → ℕ → ℕ → ℕ
+flow_at s rows exit step =
+    pair_flow rows 3 exit
+    + lands_in s s.left (pair_flow rows 0 exit) step
+    + lands_in s s.through (pair_flow rows 1 exit) step
+    + lands_in s s.right (pair_flow rows 2 exit) step
 
 -- four runs in the output, exits in order; the right entry's last cycle in the first work profile, the one before it in the second;
 -- numbers beyond stay
-unfoldable pub filledOf : Segment → List (List ℕ) → Profiles → Profiles
-filledOf s rows p =
-    let q = entryProfile s.cycle s.right in
-    profiles (fourRuns s.cycle (flowAt s rows) (drop (4 * s.cycle) p.output))
+unfoldable pub filled_of : Segment → List (List ℕ) → Profiles → Profiles
+filled_of s rows p =
+    let q = entry_profile s.cycle s.right in
+    profiles (four_runs s.cycle (flow_at s rows) (drop (4 * s.cycle) p.output))
     (reported s.running q cycles ++ drop s.cycle p.first)
-    (reported s.running q cyclesBefore ++ drop s.cycle p.second)
+    (reported s.running q cycles_before ++ drop s.cycle p.second)

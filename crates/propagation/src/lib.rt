@@ -1,7 +1,7 @@
 // Filling the lent profiles of an accepted segment, once its pair flows are decided.
 ghost use Rattle.std.specs.Prelude.{◌≡◌};
-ghost use Rattle.propagation.specs.Propagation.{filledOf, lent};
-ghost use Rattle.propagation.specs.Steps.{FillEntryFits, FillFits, SpreadFits, entryStep, spreadStep};
+ghost use Rattle.propagation.specs.Propagation.{filled_of, lent};
+ghost use Rattle.propagation.specs.Steps.{FillEntryFits, FillFits, SpreadFits, entry_step, spread_step};
 
 use movements::Counts;
 use segment::{Entry, Segment};
@@ -21,7 +21,7 @@ fn spread(
 )
     requires { SpreadFits running units row discharge.now (lent output first second) }
     ensures { lent output.exit first.exit second.exit
-        ≡ spreadStep running units row discharge.now (lent output.entry first.entry second.entry) }
+        ≡ spread_step running units row discharge.now (lent output.entry first.entry second.entry) }
 {
     dispersion::alternate(running, discharge, first, second, CYCLES);
     let part = dispersion::last_cycle(&first[..], &second[..], CYCLES, discharge.len());
@@ -40,7 +40,7 @@ fn fill_entry(
 )
     requires { FillEntryFits s.running s.cycle e o row (lent output first second) }
     ensures { lent output.exit first.exit second.exit
-        ≡ entryStep s.running s.cycle e row (lent output.entry first.entry second.entry) }
+        ≡ entry_step s.running s.cycle e row (lent output.entry first.entry second.entry) }
 {
     let c = s.cycle as usize;
     let mut discharge = [0u32; limits::CYCLE_ROOM];
@@ -67,7 +67,7 @@ pub fn fill(
     second: &mut [u32],
 )
     requires { FillFits s o rows (lent output first second) }
-    ensures { lent output.exit first.exit second.exit ≡ filledOf s rows (lent output.entry first.entry second.entry) }
+    ensures { lent output.exit first.exit second.exit ≡ filled_of s rows (lent output.entry first.entry second.entry) }
 {
     arrivals::begin(s.cycle as usize, rows[3], output);
     fill_entry(s, s.left, o.left, rows[0], output, first, second);

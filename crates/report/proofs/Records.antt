@@ -5,52 +5,52 @@ use mathlib.Core.Path.{◌≡◌, ap, sym, ◌∙◌}
 use mathlib.Core.List.{List}
 use lib.ListN.{length, take, drop}
 use borrow.Author.Tests.{lt-ltb, le-ltb}
-use Rattle.limits.specs.Limits.{mostCycle}
+use Rattle.limits.specs.Limits.{most_cycle}
 use Rattle.octets.specs.Octets.{word2, word4}
 use Rattle.buffer.specs.Buffer.{Wrote}
-use Rattle.buffer.specs.Pieces.{Appending, appending-start, appending-turn, appending-done}
+use Rattle.buffer.specs.Pieces.{Appending, appending_start, appending_turn, appending_done}
 use Rattle.segment.specs.declared.Segment.{Segment}
-use Rattle.segment.specs.Layout.{size, cycleAt}
-use Rattle.segment.specs.Segment.{segmentOf}
+use Rattle.segment.specs.Layout.{size, cycle_at}
+use Rattle.segment.specs.Segment.{segment_of}
 use Rattle.propagation.specs.Propagation.{Profiles}
-use Rattle.propagation.specs.Steps.{Room, room-kept}
+use Rattle.propagation.specs.Steps.{Room, room_kept}
 use Rattle.working_outcome.specs.declared.Working.{Working}
 use Rattle.working.specs.Working.{Called, called, Works, call_of}
-use Rattle.working.specs.Ways.{call-worked}
-use Rattle.archive_format.specs.Archive.{decode, firstEdition, next_at, filedFrom}
+use Rattle.working.specs.Ways.{call_worked}
+use Rattle.archive_format.specs.Archive.{decode, first_edition, next_at, filed_from}
 use Rattle.archive_open.specs.declared.Opened.TheVariants.{Invalid}
-use Rattle.archive_open.specs.Opening.{opened_of, invalid, Held, held-filed}
-use Rattle.archive_open.specs.Walking.{Walk, walk-on}
-use Rattle.report_lines.specs.Lines.{archiveRefusedLine}
+use Rattle.archive_open.specs.Opening.{opened_of, invalid, Held, held_filed}
+use Rattle.archive_open.specs.Walking.{Walk, walk_on}
+use Rattle.report_lines.specs.Lines.{archive_refused_line}
 use Rattle.sheet_page.specs.SheetPage.{RunStands}
 use Rattle.report.specs.declared.Form.{Form}
-use Rattle.report.specs.Report.{inputLimit, longest, textIn, segmentText, recordsText, archiveText, inputText}
-use Rattle.report.specs.Working.{same_text, longest-room}
+use Rattle.report.specs.Report.{input_limit, longest, text_in, segment_text, records_text, archive_text, input_text}
+use Rattle.report.specs.Working.{same_text, longest_room}
 
 -- ---- one record
 
-module _ (l : List ℕ) {p p' : Profiles} {w : Working} (room : Room mostCycle p) (works : Works l p w p') {cycle : ℕ} (es : cycle ≡ word2 l cycleAt) where
+module _ (l : List ℕ) {p p' : Profiles} {w : Working} (room : Room most_cycle p) (works : Works l p w p') {cycle : ℕ} (es : cycle ≡ word2 l cycle_at) where
   -- what is printed of the call is printed of the record
-  worked-alone : (form : Form) {number : ℕ} → number ≡ word4 l 0 → {b : List ℕ} {at : ℕ} {b' : List ℕ} {q : ℕ} →
-      Wrote b at (textIn form number cycle (called w p')) b' q → Wrote b at (segmentText form l) b' q
-  unfolding segmentText segmentOf
-  worked-alone form {number} en v =
-      let same : textIn form number cycle (called w p') ≡ textIn form (word4 l 0) (segmentOf l).cycle (call_of l longest) =
-      rw (en, es, works.is) (same_text form (word4 l 0) l p longest room longest-room) in
+  worked_alone : (form : Form) {number : ℕ} → number ≡ word4 l 0 → {b : List ℕ} {at : ℕ} {b' : List ℕ} {q : ℕ} →
+      Wrote b at (text_in form number cycle (called w p')) b' q → Wrote b at (segment_text form l) b' q
+  unfolding segment_text segment_of
+  worked_alone form {number} en v =
+      let same : text_in form number cycle (called w p') ≡ text_in form (word4 l 0) (segment_of l).cycle (call_of l longest) =
+      rw (en, es, works.is) (same_text form (word4 l 0) l p longest room longest_room) in
       rw same at v
 
   -- by the form that was matched
-  pub worked-in : {form : Form} (f : Form) → form ≡ f → {number : ℕ} → number ≡ word4 l 0 → {b : List ℕ} {at : ℕ} {b' : List ℕ} {q : ℕ} →
-      Wrote b at (textIn f number cycle (called w p')) b' q → Wrote b at (segmentText form l) b' q
-  worked-in f e en v = rw e (worked-alone f en v)
+  pub worked_in : {form : Form} (f : Form) → form ≡ f → {number : ℕ} → number ≡ word4 l 0 → {b : List ℕ} {at : ℕ} {b' : List ℕ} {q : ℕ} →
+      Wrote b at (text_in f number cycle (called w p')) b' q → Wrote b at (segment_text form l) b' q
+  worked_in f e en v = rw e (worked_alone f en v)
 
   -- and where it has worked, the output holds its through run
-  pub run-stands : length p'.output ≡ length p.output → RunStands cycle w p'.output
-  unfolding segmentOf
-  run-stands kept =
+  pub run_stands : length p'.output ≡ length p.output → RunStands cycle w p'.output
+  unfolding segment_of
+  run_stands kept =
       record {
         worked = λ x e.
-            let b = call-worked l p x (sym (ap (λ (c : Called). c.answer.outcome) works.is) ∙ e) in
+            let b = call_worked l p x (sym (ap (λ (c : Called). c.answer.outcome) works.is) ∙ e) in
             let same : cycle ≡ b.segment.cycle = es ∙ sym (ap (λ (s : Segment). s.cycle) b.accepted.is) in
             omega (arith, b.accepted.ranges.cycle, room.output);
       }
@@ -63,45 +63,45 @@ pub record Kept (p₀ p : Profiles) : Type 0 where
   pub first : length p.first ≡ length p₀.first
   pub second : length p.second ≡ length p₀.second
 
-pub kept-room : {p₀ p : Profiles} → Kept p₀ p → Room mostCycle p₀ → Room mostCycle p
-kept-room {p₀} {p} k r = room-kept p₀ p r k.output k.first k.second
+pub kept_room : {p₀ p : Profiles} → Kept p₀ p → Room most_cycle p₀ → Room most_cycle p
+kept_room {p₀} {p} k r = room_kept p₀ p r k.output k.first k.second
 
 -- the text so far and that of the records left
 pub record Reporting (form : Form) (l : List ℕ) (count : ℕ) (b₀ : List ℕ) (at : ℕ) (b : List ℕ) (left place p : ℕ) : Type 0 where
   pub walk : Walk size l left place
-  pub puts : Appending b₀ at (recordsText form (filedFrom size count l 0)) b p (recordsText form (filedFrom size left l place))
+  pub puts : Appending b₀ at (records_text form (filed_from size count l 0)) b p (records_text form (filed_from size left l place))
 
-pub report-start : (form : Form) {l : List ℕ} {count : ℕ} → Walk size l count 0 → (b : List ℕ) (at : ℕ) → Reporting form l count b at b count 0 at
-report-start form w b at = record { walk = w; puts = appending-start b at _ }
+pub report_start : (form : Form) {l : List ℕ} {count : ℕ} → Walk size l count 0 → (b : List ℕ) (at : ℕ) → Reporting form l count b at b count 0 at
+report_start form w b at = record { walk = w; puts = appending_start b at _ }
 
 module _ {form : Form} {l : List ℕ} {count : ℕ} {b₀ : List ℕ} {at : ℕ} {b : List ℕ} {left place p : ℕ} (r : Reporting form l count b₀ at b left place p) where
-  pub report-turn : {k : ℕ} → left ≡ suc k → {next : ℕ} → next ≡ next_at size l place → {b' : List ℕ} {p' : ℕ} →
-      Wrote b p (segmentText form (take (place + size - place) (drop place l))) b' p' → Reporting form l count b₀ at b' k next p'
-  unfolding filedFrom recordsText
-  report-turn {k} one e v =
+  pub report_turn : {k : ℕ} → left ≡ suc k → {next : ℕ} → next ≡ next_at size l place → {b' : List ℕ} {p' : ℕ} →
+      Wrote b p (segment_text form (take (place + size - place) (drop place l))) b' p' → Reporting form l count b₀ at b' k next p'
+  unfolding filed_from records_text
+  report_turn {k} one e v =
       let n : place + size - place ≡ size = omega arith in
-      record { walk = walk-on r.walk k one e; puts = appending-turn r.puts v _ (rw (one, n, e)) }
+      record { walk = walk_on r.walk k one e; puts = appending_turn r.puts v _ (rw (one, n, e)) }
 
-  pub report-done : left ≤ 0 → Wrote b₀ at (recordsText form (filedFrom size count l 0)) b p
-  unfolding filedFrom recordsText
-  report-done h = let e : left ≡ 0 = omega arith in appending-done r.puts (rw e)
+  pub report_done : left ≤ 0 → Wrote b₀ at (records_text form (filed_from size count l 0)) b p
+  unfolding filed_from records_text
+  report_done h = let e : left ≡ 0 = omega arith in appending_done r.puts (rw e)
 
 -- ---- the archive
 
 module _ (form : Form) (l : List ℕ) {b : List ℕ} {at : ℕ} {b' : List ℕ} {p : ℕ} where
-  pub archive-refused : (k : ℕ) → opened_of (decode firstEdition l) ≡ Invalid k → Wrote b at (archiveRefusedLine k) b' p → Wrote b at (archiveText form l) b' p
-  unfolding archiveText
-  archive-refused k o v = rw (invalid firstEdition l k o) v
+  pub archive_refused : (k : ℕ) → opened_of (decode first_edition l) ≡ Invalid k → Wrote b at (archive_refused_line k) b' p → Wrote b at (archive_text form l) b' p
+  unfolding archive_text
+  archive_refused k o v = rw (invalid first_edition l k o) v
 
-  pub archive-read : {count t last : ℕ} → Held firstEdition l count t last →
-      Wrote b at (recordsText form (filedFrom size count l 0)) b' p → Wrote b at (archiveText form l) b' p
-  unfolding archiveText
-  archive-read h v = rw (held-filed firstEdition l h) v
+  pub archive_read : {count t last : ℕ} → Held first_edition l count t last →
+      Wrote b at (records_text form (filed_from size count l 0)) b' p → Wrote b at (archive_text form l) b' p
+  unfolding archive_text
+  archive_read h v = rw (held_filed first_edition l h) v
 
-  pub input-long : inputLimit < length l → Wrote b at (archiveRefusedLine 2) b' p → Wrote b at (inputText form l) b' p
-  unfolding inputText
-  input-long h v = rw (lt-ltb _ _ h) v
+  pub input_long : input_limit < length l → Wrote b at (archive_refused_line 2) b' p → Wrote b at (input_text form l) b' p
+  unfolding input_text
+  input_long h v = rw (lt-ltb _ _ h) v
 
-  pub input-short : length l ≤ inputLimit → Wrote b at (archiveText form l) b' p → Wrote b at (inputText form l) b' p
-  unfolding inputText
-  input-short h v = rw (le-ltb _ _ h) v
+  pub input_short : length l ≤ input_limit → Wrote b at (archive_text form l) b' p → Wrote b at (input_text form l) b' p
+  unfolding input_text
+  input_short h v = rw (le-ltb _ _ h) v

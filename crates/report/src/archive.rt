@@ -1,14 +1,14 @@
 // The records of an archive, each worked from its own bytes in one pass, and what is printed of each: its lines or its sheet.
 // The work profiles are the caller's, so that they are made once.
 ghost use Rattle.std.specs.Prelude.{◌≡◌, length};
-ghost use Rattle.limits.specs.Limits.{mostCycle};
+ghost use Rattle.limits.specs.Limits.{most_cycle};
 ghost use Rattle.buffer.specs.Buffer.{Wrote};
 ghost use Rattle.segment.specs.Layout.{size};
 ghost use Rattle.propagation.specs.Propagation.{profiles};
 ghost use Rattle.propagation.specs.Steps.{Room};
-ghost use Rattle.archive_format.specs.Archive.{filedFrom};
+ghost use Rattle.archive_format.specs.Archive.{filed_from};
 ghost use Rattle.archive_open.specs.Walking.{Walk};
-ghost use Rattle.report.specs.Report.{archiveText, inputText, recordsText, segmentText};
+ghost use Rattle.report.specs.Report.{archive_text, input_text, records_text, segment_text};
 
 use crate::{Form, INPUT_LIMIT};
 use archive_format::FIRST_EDITION;
@@ -23,8 +23,8 @@ fn segment_text(
     first: &mut [u32],
     second: &mut [u32],
 ) -> usize
-    requires { (length bytes.now ≡ size) × Room mostCycle (profiles output.old first.old second.old) }
-    ensures { Wrote text.old at (segmentText form bytes.now) text.new result }
+    requires { (length bytes.now ≡ size) × Room most_cycle (profiles output.old first.old second.old) }
+    ensures { Wrote text.old at (segment_text form bytes.now) text.new result }
 {
     let number = octets::word4_at(bytes, segment::NUMBER_AT);
     let cycle = octets::word2_at(bytes, segment::CYCLE_AT);
@@ -46,8 +46,8 @@ fn records_text(
     first: &mut [u32],
     second: &mut [u32],
 ) -> usize
-    requires { Walk size archive.now count 0 × Room mostCycle (profiles output.old first.old second.old) }
-    ensures { Wrote text.old at (recordsText form (filedFrom size count archive.now 0)) text.new result }
+    requires { Walk size archive.now count 0 × Room most_cycle (profiles output.old first.old second.old) }
+    ensures { Wrote text.old at (records_text form (filed_from size count archive.now 0)) text.new result }
 {
     let mut left = count;
     let mut place: usize = 0;
@@ -77,8 +77,8 @@ fn archive_text(
     first: &mut [u32],
     second: &mut [u32],
 ) -> usize
-    requires { Room mostCycle (profiles output.old first.old second.old) }
-    ensures { Wrote text.old at (archiveText form archive.now) text.new result }
+    requires { Room most_cycle (profiles output.old first.old second.old) }
+    ensures { Wrote text.old at (archive_text form archive.now) text.new result }
 {
     let opened = open(FIRST_EDITION, archive);
     match opened {
@@ -100,8 +100,8 @@ pub(crate) fn input_text(
     first: &mut [u32],
     second: &mut [u32],
 ) -> usize
-    requires { Room mostCycle (profiles output.old first.old second.old) }
-    ensures { Wrote text.old at (inputText form archive.now) text.new result }
+    requires { Room most_cycle (profiles output.old first.old second.old) }
+    ensures { Wrote text.old at (input_text form archive.now) text.new result }
 {
     if INPUT_LIMIT < archive.len() {
         return report_lines::archive_refused_line(text, at, 2);

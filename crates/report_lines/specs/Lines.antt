@@ -8,84 +8,84 @@ use Rattle.text.specs.Words.{bytes, newline}
 
 -- ---- the words
 
-abbrev pub recordLabel : List ℕ
-recordLabel = bytes "card "
+abbrev pub record_label : List ℕ
+record_label = bytes "card "
 
-abbrev pub cycleLabel : List ℕ
-cycleLabel = bytes " cycle "
+abbrev pub cycle_label : List ℕ
+cycle_label = bytes " cycle "
 
-abbrev pub shiftLabel : List ℕ
-shiftLabel = bytes " shift "
+abbrev pub shift_label : List ℕ
+shift_label = bytes " shift "
 
-abbrev pub roundsLabel : List ℕ
-roundsLabel = bytes " rounds "
+abbrev pub rounds_label : List ℕ
+rounds_label = bytes " rounds "
 
-abbrev pub exitLabel : ℕ → List ℕ
-exitLabel letter = bytes "exit " ++ letter ∷ bytes " total "
+abbrev pub exit_label : ℕ → List ℕ
+exit_label letter = bytes "exit " ++ letter ∷ bytes " total "
 
-abbrev pub greenLabel : List ℕ
-greenLabel = bytes " green "
+abbrev pub green_label : List ℕ
+green_label = bytes " green "
 
-abbrev pub permilleLabel : List ℕ
-permilleLabel = bytes " permille "
+abbrev pub permille_label : List ℕ
+permille_label = bytes " permille "
 
-abbrev pub blockedLabel : List ℕ
-blockedLabel = bytes "blocked "
+abbrev pub blocked_label : List ℕ
+blocked_label = bytes "blocked "
 
-abbrev pub ofLabel : List ℕ
-ofLabel = bytes " of "
+abbrev pub of_label : List ℕ
+of_label = bytes " of "
 
-abbrev pub refusedLabel : List ℕ
-refusedLabel = bytes " refused "
+abbrev pub refused_label : List ℕ
+refused_label = bytes " refused "
 
-abbrev pub archiveLabel : List ℕ
-archiveLabel = bytes "drawer refused "
+abbrev pub archive_label : List ℕ
+archive_label = bytes "drawer refused "
 
-abbrev pub letterL : ℕ
-letterL = code "l"
+abbrev pub letter_l : ℕ
+letter_l = code "l"
 
-abbrev pub letterT : ℕ
-letterT = code "t"
+abbrev pub letter_t : ℕ
+letter_t = code "t"
 
-abbrev pub letterR : ℕ
-letterR = code "r"
+abbrev pub letter_r : ℕ
+letter_r = code "r"
 
-abbrev pub letterA : ℕ
-letterA = code "a"
+abbrev pub letter_a : ℕ
+letter_a = code "a"
 
 -- ---- lines without their end, which the exam sheet has too
 
 -- card 1 cycle 60 shift 34 rounds 1
-unfoldable pub recordWords : (number cycle arrival rounds : ℕ) → List ℕ
-recordWords number cycle arrival rounds = field recordLabel number ++ field cycleLabel cycle ++ field shiftLabel arrival ++ field roundsLabel rounds
+unfoldable pub record_words : (number cycle arrival rounds : ℕ) → List ℕ
+record_words number cycle arrival rounds = field record_label number ++ field cycle_label cycle ++ field shift_label arrival ++ field rounds_label rounds
 
 -- exit t total 21600000 green 10800000 permille 500
-unfoldable pub exitWords : List ℕ → ExitFigures → List ℕ
-exitWords label f = field label f.total ++ field greenLabel f.green ++ field permilleLabel f.permille
+unfoldable pub exit_words : List ℕ → ExitFigures → List ℕ
+exit_words label f = field label f.total ++ field green_label f.green ++ field permille_label f.permille
 
 -- card 1 refused 7
-unfoldable pub refusedWords : (number k : ℕ) → List ℕ
-refusedWords number k = field recordLabel number ++ field refusedLabel k
+unfoldable pub refused_words : (number k : ℕ) → List ℕ
+refused_words number k = field record_label number ++ field refused_label k
 
 -- ---- the lines
 
-unfoldable pub recordLine : (number cycle arrival rounds : ℕ) → List ℕ
-recordLine number cycle arrival rounds = recordWords number cycle arrival rounds ++ newline
+unfoldable pub record_line : (number cycle arrival rounds : ℕ) → List ℕ
+record_line number cycle arrival rounds = record_words number cycle arrival rounds ++ newline
 
-unfoldable pub exitLine : List ℕ → ExitFigures → List ℕ
-exitLine label f = exitWords label f ++ newline
+unfoldable pub exit_line : List ℕ → ExitFigures → List ℕ
+exit_line label f = exit_words label f ++ newline
 
-unfoldable pub refusedLine : (number k : ℕ) → List ℕ
-refusedLine number k = refusedWords number k ++ newline
+unfoldable pub refused_line : (number k : ℕ) → List ℕ
+refused_line number k = refused_words number k ++ newline
 
 -- exit a total 0
-unfoldable pub accessLine : ℕ → List ℕ
-accessLine total = field (exitLabel letterA) total ++ newline
+unfoldable pub access_line : ℕ → List ℕ
+access_line total = field (exit_label letter_a) total ++ newline
 
 -- blocked 0 of 60
-unfoldable pub blockedLine : (count cycle : ℕ) → List ℕ
-blockedLine count cycle = field blockedLabel count ++ field ofLabel cycle ++ newline
+unfoldable pub blocked_line : (count cycle : ℕ) → List ℕ
+blocked_line count cycle = field blocked_label count ++ field of_label cycle ++ newline
 
 -- drawer refused 2
-unfoldable pub archiveRefusedLine : ℕ → List ℕ
-archiveRefusedLine k = field archiveLabel k ++ newline
+unfoldable pub archive_refused_line : ℕ → List ℕ
+archive_refused_line k = field archive_label k ++ newline

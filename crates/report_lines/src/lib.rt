@@ -1,8 +1,8 @@
 // The lines that the program prints, from plain numbers, appended to a lent buffer. None of the calls asks anything of its caller.
 ghost use Rattle.buffer.specs.Buffer.{Wrote};
 ghost use Rattle.text.specs.Words.{newline};
-ghost use Rattle.report_lines.specs.Lines.{accessLine, archiveRefusedLine, blockedLine, exitLine, exitWords, recordLine, recordWords};
-ghost use Rattle.report_lines.specs.Lines.{refusedLine, refusedWords};
+ghost use Rattle.report_lines.specs.Lines.{access_line, archive_refused_line, blocked_line, exit_line, exit_words, record_line, record_words};
+ghost use Rattle.report_lines.specs.Lines.{refused_line, refused_words};
 
 use exit_figures::ExitFigures;
 use text::append_field;
@@ -22,7 +22,7 @@ pub fn record_words(
     arrival: u32,
     rounds: u32,
 ) -> usize
-    ensures { Wrote text.old at (recordWords number cycle arrival rounds) text.new result }
+    ensures { Wrote text.old at (record_words number cycle arrival rounds) text.new result }
 {
     let p = append_field(text, at, b"card ", number as u64);
     let p = append_field(text, p, b" cycle ", cycle as u64);
@@ -31,7 +31,7 @@ pub fn record_words(
 }
 
 pub fn exit_words(text: &mut [u8], at: usize, label: &[u8], f: ExitFigures) -> usize
-    ensures { Wrote text.old at (exitWords label.now f) text.new result }
+    ensures { Wrote text.old at (exit_words label.now f) text.new result }
 {
     let p = append_field(text, at, label, f.total);
     let p = append_field(text, p, b" green ", f.green);
@@ -39,7 +39,7 @@ pub fn exit_words(text: &mut [u8], at: usize, label: &[u8], f: ExitFigures) -> u
 }
 
 pub fn refused_words(text: &mut [u8], at: usize, number: u32, k: u32) -> usize
-    ensures { Wrote text.old at (refusedWords number k) text.new result }
+    ensures { Wrote text.old at (refused_words number k) text.new result }
 {
     let p = append_field(text, at, b"card ", number as u64);
     append_field(text, p, b" refused ", k as u64)
@@ -53,14 +53,14 @@ pub fn record_line(
     arrival: u32,
     rounds: u32,
 ) -> usize
-    ensures { Wrote text.old at (recordLine number cycle arrival rounds) text.new result }
+    ensures { Wrote text.old at (record_line number cycle arrival rounds) text.new result }
 {
     let p = record_words(text, at, number, cycle, arrival, rounds);
     end_line(text, p)
 }
 
 pub fn exit_line(text: &mut [u8], at: usize, label: &[u8], f: ExitFigures) -> usize
-    ensures { Wrote text.old at (exitLine label.now f) text.new result }
+    ensures { Wrote text.old at (exit_line label.now f) text.new result }
 {
     let p = exit_words(text, at, label, f);
     end_line(text, p)
@@ -68,14 +68,14 @@ pub fn exit_line(text: &mut [u8], at: usize, label: &[u8], f: ExitFigures) -> us
 
 // The access exit has its total only.
 pub fn access_line(text: &mut [u8], at: usize, total: u64) -> usize
-    ensures { Wrote text.old at (accessLine total) text.new result }
+    ensures { Wrote text.old at (access_line total) text.new result }
 {
     let p = append_field(text, at, b"exit a total ", total);
     end_line(text, p)
 }
 
 pub fn blocked_line(text: &mut [u8], at: usize, count: u32, cycle: u32) -> usize
-    ensures { Wrote text.old at (blockedLine count cycle) text.new result }
+    ensures { Wrote text.old at (blocked_line count cycle) text.new result }
 {
     let p = append_field(text, at, b"blocked ", count as u64);
     let p = append_field(text, p, b" of ", cycle as u64);
@@ -83,14 +83,14 @@ pub fn blocked_line(text: &mut [u8], at: usize, count: u32, cycle: u32) -> usize
 }
 
 pub fn refused_line(text: &mut [u8], at: usize, number: u32, k: u32) -> usize
-    ensures { Wrote text.old at (refusedLine number k) text.new result }
+    ensures { Wrote text.old at (refused_line number k) text.new result }
 {
     let p = refused_words(text, at, number, k);
     end_line(text, p)
 }
 
 pub fn archive_refused_line(text: &mut [u8], at: usize, k: u32) -> usize
-    ensures { Wrote text.old at (archiveRefusedLine k) text.new result }
+    ensures { Wrote text.old at (archive_refused_line k) text.new result }
 {
     let p = append_field(text, at, b"drawer refused ", k as u64);
     end_line(text, p)

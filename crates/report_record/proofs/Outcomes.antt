@@ -5,9 +5,9 @@ use mathlib.Core.List.{List}
 use Rattle.buffer.specs.Buffer.{cursor, put, Wrote}
 use Rattle.balance_decision.specs.declared.Outcome.{Outcome}
 use Rattle.working_outcome.specs.declared.Working.{Working}
-use Rattle.report_record.specs.Record.{textBy, recordText}
+use Rattle.report_record.specs.Record.{text_by, record_text}
 
-pub by-outcome : (number cycle : ℕ) (w : Working) (o : Outcome) → w.outcome ≡ o → {b : List ℕ} {at : ℕ} {b' : List ℕ} {p : ℕ}
-    → Wrote b at (textBy o number cycle w) b' p → Wrote b at (recordText number cycle w) b' p
-unfolding recordText
-by-outcome number cycle w o e {b} {at} v = record { is = v.is ∙ ap (λ (x : Outcome). put (cursor b at) (textBy x number cycle w)) (sym e) }
+pub by_outcome_lem : (number cycle : ℕ) (w : Working) (o : Outcome) → w.outcome ≡ o → {b : List ℕ} {at : ℕ} {b' : List ℕ} {p : ℕ}
+    → Wrote b at (text_by o number cycle w) b' p → Wrote b at (record_text number cycle w) b' p
+unfolding record_text
+by_outcome_lem number cycle w o e {b} {at} v = record { is = v.is ∙ ap (λ (x : Outcome). put (cursor b at) (text_by x number cycle w)) (sym e) }

@@ -4,29 +4,29 @@ use Rattle.std.proofs.Common.{arith, length-append}
 use Rattle.balance_decision.specs.declared.Outcome.{Outcome}
 use Rattle.balance_decision.specs.declared.Outcome.TheVariants.{Worked, Refused, Unsettled}
 use Rattle.working_outcome.specs.declared.Working.{Working}
-use Rattle.report_lines.specs.Lines.{exitLabel, letterL, letterT, letterR}
-use Rattle.report_lines.specs.Lengths.{record-line, exit_line, access-line, blocked-line, refused-line}
-use Rattle.report_record.specs.Record.{workedText, textBy, recordText}
+use Rattle.report_lines.specs.Lines.{exit_label, letter_l, letter_t, letter_r}
+use Rattle.report_lines.specs.Lengths.{record_line_lem, exit_line_lem, access_line_lem, blocked_line_lem, refused_line_lem}
+use Rattle.report_record.specs.Record.{worked_text, text_by, record_text}
 
-worked-text : (number cycle : ℕ) (w : Working) → length (workedText number cycle w) ≤ 468
-unfolding workedText
-worked-text number cycle w =
+worked_text_lem : (number cycle : ℕ) (w : Working) → length (worked_text number cycle w) ≤ 468
+unfolding worked_text
+worked_text_lem number cycle w =
     simp length-append
     (omega (
       arith,
-      record-line number cycle w.arrival w.rounds,
-      exit_line (exitLabel letterL) w.left,
-      exit_line (exitLabel letterT) w.through,
-      exit_line (exitLabel letterR) w.right,
-      access-line w.access,
-      blocked-line w.blocked cycle,
+      record_line_lem number cycle w.arrival w.rounds,
+      exit_line_lem (exit_label letter_l) w.left,
+      exit_line_lem (exit_label letter_t) w.through,
+      exit_line_lem (exit_label letter_r) w.right,
+      access_line_lem w.access,
+      blocked_line_lem w.blocked cycle,
     ))
 
-pub record-text : (number cycle : ℕ) (w : Working) → length (recordText number cycle w) ≤ 468
-unfolding recordText
-record-text number cycle w = go w.outcome
+pub record_text_lem : (number cycle : ℕ) (w : Working) → length (record_text number cycle w) ≤ 468
+unfolding record_text
+record_text_lem number cycle w = go w.outcome
   where
-    go : (o : Outcome) → length (textBy o number cycle w) ≤ 468
-    go (Worked x) = worked-text number cycle w
-    go (Refused k) = omega (arith, refused-line number k)
-    go (Unsettled x) = omega (arith, refused-line number 15)
+    go : (o : Outcome) → length (text_by o number cycle w) ≤ 468
+    go (Worked x) = worked_text_lem number cycle w
+    go (Refused k) = omega (arith, refused_line_lem number k)
+    go (Unsettled x) = omega (arith, refused_line_lem number 15)

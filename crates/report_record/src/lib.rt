@@ -1,13 +1,13 @@
 // The lines of one record, from its number, its cycle and what its working answered, appended to a lent buffer.
 ghost use Rattle.buffer.specs.Buffer.{Wrote};
-ghost use Rattle.report_record.specs.Record.{recordText, workedText};
+ghost use Rattle.report_record.specs.Record.{record_text, worked_text};
 
 use balance_decision::Outcome;
 use report_lines::{access_line, blocked_line, exit_line, record_line, refused_line};
 use working_outcome::Working;
 
 fn worked_text(text: &mut [u8], at: usize, number: u32, cycle: u32, w: Working) -> usize
-    ensures { Wrote text.old at (workedText number cycle w) text.new result }
+    ensures { Wrote text.old at (worked_text number cycle w) text.new result }
 {
     let p = record_line(text, at, number, cycle, w.arrival, w.rounds);
     let p = exit_line(text, p, b"exit l total ", w.left);
@@ -18,7 +18,7 @@ fn worked_text(text: &mut [u8], at: usize, number: u32, cycle: u32, w: Working) 
 }
 
 pub fn record_text(text: &mut [u8], at: usize, number: u32, cycle: u32, w: Working) -> usize
-    ensures { Wrote text.old at (recordText number cycle w) text.new result }
+    ensures { Wrote text.old at (record_text number cycle w) text.new result }
 {
     let outcome = w.outcome;
     match outcome {

@@ -1,40 +1,40 @@
 -- The sheet of every record that is decided to work fits its page.
 use Rattle.std.specs.Prelude.{ℕ, ◌^◌, ◌<◌, ◌≡◌, List, Float, length, get_or}
 use Rattle.std.proofs.Common.{arith}
-use Rattle.lists.specs.Lists.{tab-length}
+use Rattle.lists.specs.Lists.{tab_length}
 use Rattle.runs.specs.Runs.{run_at}
 use Rattle.octets.specs.Octets.{word4}
 use Rattle.segment.specs.declared.Segment.{Segment}
 use Rattle.segment.specs.Layout.{number_at}
-use Rattle.segment.specs.Segment.{segmentOf}
+use Rattle.segment.specs.Segment.{segment_of}
 use Rattle.ranges.specs.Ranges.{Ranges}
 use Rattle.exit_figures.specs.declared.ExitFigures.{ExitFigures}
 use Rattle.balance_decision.specs.declared.Outcome.TheVariants.{Worked}
-use Rattle.propagation.specs.Propagation.{Profiles, flowAt}
+use Rattle.propagation.specs.Propagation.{Profiles, flow_at}
 use Rattle.working_outcome.specs.Answer.{run_of}
-use Rattle.working_outcome.specs.Filled.{filled-run}
-use Rattle.working.specs.Working.{decisionFor, byOutcome, call_of}
-use Rattle.working.specs.Ways.{call-worked}
-use Rattle.working.specs.Sizes.{ExitSized, worked-sized, run-sized}
+use Rattle.working_outcome.specs.Filled.{filled_run}
+use Rattle.working.specs.Working.{decision_for, by_outcome, call_of}
+use Rattle.working.specs.Ways.{call_worked}
+use Rattle.working.specs.Sizes.{ExitSized, worked_sized, run_sized}
 use Rattle.sheet_page.specs.Fits.{ExitFits, SheetFits}
 
-exit-fits : (f : ExitFigures) → ExitSized f → ExitFits f
-exit-fits f h = record { total = omega (arith, h.total); green = omega (arith, h.total, h.green); permille = omega (arith, h.permille) }
+exit_fits : (f : ExitFigures) → ExitSized f → ExitFits f
+exit_fits f h = record { total = omega (arith, h.total); green = omega (arith, h.total, h.green); permille = omega (arith, h.permille) }
 
-module _ (s : Segment) (r : Ranges s) (x : Float) (e : (decisionFor s).outcome ≡ Worked x) (p : Profiles) where
+module _ (s : Segment) (r : Ranges s) (x : Float) (e : (decision_for s).outcome ≡ Worked x) (p : Profiles) where
   abbrev rows : List (List ℕ)
-  rows = (decisionFor s).pairs.rows
+  rows = (decision_for s).pairs.rows
 
-  through-length : length (run_of s rows 1) ≡ s.cycle
+  through_length : length (run_of s rows 1) ≡ s.cycle
   unfolding run_of
-  through-length = tab-length (flowAt s rows 1) 1 s.cycle
+  through_length = tab_length (flow_at s rows 1) 1 s.cycle
 
   -- what the working answers and leaves, on a record with a number of four bytes
-  pub sheet-sized : (number : ℕ) → number < 2 ^ 32 → let c = byOutcome (Worked x) s (decisionFor s) p in
+  pub sheet_sized : (number : ℕ) → number < 2 ^ 32 → let c = by_outcome (Worked x) s (decision_for s) p in
       SheetFits number s.cycle c.answer (run_at s.cycle 1 c.after.output)
-  sheet-sized number four =
-      let w = worked-sized s r x e in
-      rw (filled-run s rows p 1 (omega arith))
+  sheet_sized number four =
+      let w = worked_sized s r x e in
+      rw (filled_run s rows p 1 (omega arith))
       (record {
         ten = omega arith;
         three = omega (arith, r.cycle);
@@ -42,11 +42,11 @@ module _ (s : Segment) (r : Ranges s) (x : Float) (e : (decisionFor s).outcome �
         rounds = omega (arith, w.rounds);
         four = w.four;
         pairs = λ i j m. omega (arith, w.pairs i j m);
-        left = exit-fits _ w.left;
-        through = exit-fits _ w.through;
-        right = exit-fits _ w.right;
-        flows = λ i. omega (arith, run-sized s r x e 1 (omega arith) i);
-        steps = omega (arith, through-length, r.cycle);
+        left = exit_fits _ w.left;
+        through = exit_fits _ w.through;
+        right = exit_fits _ w.right;
+        flows = λ i. omega (arith, run_sized s r x e 1 (omega arith) i);
+        steps = omega (arith, through_length, r.cycle);
       })
 
 -- ---- of a call that works, on bytes
@@ -56,9 +56,9 @@ module _ (l : List ℕ) (bytes : (i : ℕ) → get_or l i 0 < 256) where
   unfolding word4
   number_small = omega (arith, bytes 0, bytes 1, bytes 2, bytes 3)
 
-  pub called-sized : (p : Profiles) (x : Float) → (call_of l p).answer.outcome ≡ Worked x →
-      SheetFits (word4 l number_at) (segmentOf l).cycle (call_of l p).answer (run_at (segmentOf l).cycle 1 (call_of l p).after.output)
-  called-sized p x e =
-      let b = call-worked l p x e in
+  pub called_sized : (p : Profiles) (x : Float) → (call_of l p).answer.outcome ≡ Worked x →
+      SheetFits (word4 l number_at) (segment_of l).cycle (call_of l p).answer (run_at (segment_of l).cycle 1 (call_of l p).after.output)
+  called_sized p x e =
+      let b = call_worked l p x e in
       let s = b.segment in
-      rw (b.is, ← b.accepted.is) (sheet-sized s b.accepted.ranges x b.works p (word4 l number_at) number_small)
+      rw (b.is, ← b.accepted.is) (sheet_sized s b.accepted.ranges x b.works p (word4 l number_at) number_small)

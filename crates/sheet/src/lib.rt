@@ -5,9 +5,9 @@ ghost use Rattle.balance_decision.specs.declared.Outcome.TheVariants.{Worked};
 ghost use Rattle.propagation.specs.Propagation.{lent};
 ghost use Rattle.propagation.specs.Steps.{Room};
 ghost use Rattle.working.specs.Decided.{Decided};
-ghost use Rattle.working.specs.Working.{byDecision, byOutcome, decisionFor};
-ghost use Rattle.page.specs.Page.{pageRoom};
-ghost use Rattle.sheet.specs.Sheet.{Sheets, printed, sheetBy, sheetCalled};
+ghost use Rattle.working.specs.Working.{by_decision, by_outcome, decision_for};
+ghost use Rattle.page.specs.Page.{page_room};
+ghost use Rattle.sheet.specs.Sheet.{Sheets, printed, sheet_by, sheet_called};
 
 use balance_decision::{Decision, Outcome};
 use page::PAGE_ROOM;
@@ -26,9 +26,9 @@ fn fill(
     first: &mut [u32],
     second: &mut [u32],
 ) -> Working
-    requires { Decided s sum decision (lent output first second) × (pageRoom ≤ length page.old) }
-    ensures { sheetCalled result (lent output.exit first.exit second.exit) page.new
-        ≡ printed number s.cycle (byOutcome (Worked sum) s (decisionFor s) (lent output.entry first.entry second.entry)) page.old }
+    requires { Decided s sum decision (lent output first second) × (page_room ≤ length page.old) }
+    ensures { sheet_called result (lent output.exit first.exit second.exit) page.new
+        ≡ printed number s.cycle (by_outcome (Worked sum) s (decision_for s) (lent output.entry first.entry second.entry)) page.old }
 {
     let w = working::fill(s, sum, decision, output, first, second);
     sheet_page::worked_page(page, 0, number, s.cycle, w, &output[..]);
@@ -45,8 +45,8 @@ fn sheet_accepted(
     second: &mut [u32],
 ) -> Working
     requires { Ranges s × Room s.cycle (lent output first second) }
-    ensures { sheetCalled result (lent output.exit first.exit second.exit) page.new
-        ≡ sheetBy (decisionFor s).outcome number s.cycle (byDecision s (decisionFor s) (lent output.entry first.entry second.entry))
+    ensures { sheet_called result (lent output.exit first.exit second.exit) page.new
+        ≡ sheet_by (decision_for s).outcome number s.cycle (by_decision s (decision_for s) (lent output.entry first.entry second.entry))
         (lent output.entry first.entry second.entry) page.old }
 {
     let decision = working::decide(s);

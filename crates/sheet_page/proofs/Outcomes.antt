@@ -5,10 +5,10 @@ use mathlib.Core.List.{List}
 use Rattle.buffer.specs.Buffer.{cursor, put, Wrote}
 use Rattle.balance_decision.specs.declared.Outcome.{Outcome}
 use Rattle.working_outcome.specs.declared.Working.{Working}
-use Rattle.sheet_page.specs.SheetPage.{pageBy, recordPage}
+use Rattle.sheet_page.specs.SheetPage.{page_by, record_page}
 
-pub by-outcome : (number cycle : ℕ) (w : Working) (output : List ℕ) (o : Outcome) → w.outcome ≡ o → {b : List ℕ} {at : ℕ} {b' : List ℕ} {p : ℕ} →
-    Wrote b at (pageBy o number cycle w output) b' p → Wrote b at (recordPage number cycle w output) b' p
-unfolding recordPage
-by-outcome number cycle w output o e {b} {at} v =
-    record { is = v.is ∙ ap (λ (x : Outcome). put (cursor b at) (pageBy x number cycle w output)) (sym e) }
+pub by_outcome_lem : (number cycle : ℕ) (w : Working) (output : List ℕ) (o : Outcome) → w.outcome ≡ o → {b : List ℕ} {at : ℕ} {b' : List ℕ} {p : ℕ} →
+    Wrote b at (page_by o number cycle w output) b' p → Wrote b at (record_page number cycle w output) b' p
+unfolding record_page
+by_outcome_lem number cycle w output o e {b} {at} v =
+    record { is = v.is ∙ ap (λ (x : Outcome). put (cursor b at) (page_by x number cycle w output)) (sym e) }

@@ -4,76 +4,76 @@ use Rattle.std.specs.Prelude.{ℕ, zero, suc, ◌+◌, ◌/◌, ◌≤◌, ◌�
 use Rattle.runs.specs.Runs.{run_at}
 use Rattle.balance_decision.specs.declared.Outcome.{Outcome}
 use Rattle.balance_decision.specs.declared.Outcome.TheVariants.{Worked, Refused, Unsettled}
-use Rattle.balance_decision.specs.Outcome.{refusalOf}
+use Rattle.balance_decision.specs.Outcome.{refusal_of}
 use Rattle.working_outcome.specs.declared.Working.{Working}
 use Rattle.text.specs.Text.{columns}
 use Rattle.page.specs.Page.{page}
-use Rattle.report_lines.specs.Lines.{exitLabel, letterL, letterT, letterR, recordWords, exitWords, refusedWords}
+use Rattle.report_lines.specs.Lines.{exit_label, letter_l, letter_t, letter_r, record_words, exit_words, refused_words}
 
 -- the columns of a pair flow, told as it is
-abbrev pub pairWidth : ℕ
-pairWidth = 11
+abbrev pub pair_width : ℕ
+pair_width = 11
 
-abbrev pub pairUnit : ℕ
-pairUnit = 1
+abbrev pub pair_unit : ℕ
+pair_unit = 1
 
 -- the columns of a step's flow, told in thousands rounded down
-abbrev pub flowWidth : ℕ
-flowWidth = 7
+abbrev pub flow_width : ℕ
+flow_width = 7
 
-abbrev pub flowUnit : ℕ
-flowUnit = 1000
+abbrev pub flow_unit : ℕ
+flow_unit = 1000
 
 -- the steps of a row; so many rows hold a run of n steps, the last perhaps shorter
-abbrev pub rowSteps : ℕ
-rowSteps = 10
+abbrev pub row_steps : ℕ
+row_steps = 10
 
-abbrev pub rowsFor : ℕ → ℕ
-rowsFor n = (n + 9) / rowSteps
+abbrev pub rows_for : ℕ → ℕ
+rows_for n = (n + 9) / row_steps
 
 -- ---- the lines
 
 -- the four pair flows of an entry, counted from 0
-abbrev pub pairWords : List (List ℕ) → ℕ → List ℕ
-pairWords rows entry = columns pairWidth pairUnit (get_or rows entry [])
+abbrev pub pair_words : List (List ℕ) → ℕ → List ℕ
+pair_words rows entry = columns pair_width pair_unit (get_or rows entry [])
 
 -- a line for each entry
-abbrev pub pairLines : List (List ℕ) → List (List ℕ)
-pairLines rows = pairWords rows 0 ∷ pairWords rows 1 ∷ pairWords rows 2 ∷ pairWords rows 3 ∷ []
+abbrev pub pair_lines : List (List ℕ) → List (List ℕ)
+pair_lines rows = pair_words rows 0 ∷ pair_words rows 1 ∷ pair_words rows 2 ∷ pair_words rows 3 ∷ []
 
 -- so many rows of a run
-unfoldable pub flowLines : ℕ → List ℕ → List (List ℕ)
-flowLines zero run = []
-flowLines (suc n) run = columns flowWidth flowUnit (take rowSteps run) ∷ flowLines n (drop rowSteps run)
+unfoldable pub flow_lines : ℕ → List ℕ → List (List ℕ)
+flow_lines zero run = []
+flow_lines (suc n) run = columns flow_width flow_unit (take row_steps run) ∷ flow_lines n (drop row_steps run)
 
 -- the lines of the three signalised exits
-abbrev pub exitLines : Working → List (List ℕ)
-exitLines w = exitWords (exitLabel letterL) w.left ∷ exitWords (exitLabel letterT) w.through ∷ exitWords (exitLabel letterR) w.right ∷ []
+abbrev pub exit_lines : Working → List (List ℕ)
+exit_lines w = exit_words (exit_label letter_l) w.left ∷ exit_words (exit_label letter_t) w.through ∷ exit_words (exit_label letter_r) w.right ∷ []
 
 -- the sheet above its run: the record, its pair flows, its exits
-unfoldable pub headLines : (number cycle : ℕ) → Working → List (List ℕ)
-headLines number cycle w = (recordWords number cycle w.arrival w.rounds ∷ []) ++ pairLines w.pairs.rows ++ exitLines w
+unfoldable pub head_lines : (number cycle : ℕ) → Working → List (List ℕ)
+head_lines number cycle w = (record_words number cycle w.arrival w.rounds ∷ []) ++ pair_lines w.pairs.rows ++ exit_lines w
 
-unfoldable pub sheetLines : (number cycle : ℕ) → Working → (run : List ℕ) → List (List ℕ)
-sheetLines number cycle w run = headLines number cycle w ++ flowLines (rowsFor (length run)) run
+unfoldable pub sheet_lines : (number cycle : ℕ) → Working → (run : List ℕ) → List (List ℕ)
+sheet_lines number cycle w run = head_lines number cycle w ++ flow_lines (rows_for (length run)) run
 
 -- ---- the pages
 
 -- a record that has worked: the through exit's run is the output's second
-unfoldable pub workedPage : (number cycle : ℕ) → Working → (output : List ℕ) → List ℕ
-workedPage number cycle w output = page (sheetLines number cycle w (run_at cycle 1 output))
+unfoldable pub worked_page : (number cycle : ℕ) → Working → (output : List ℕ) → List ℕ
+worked_page number cycle w output = page (sheet_lines number cycle w (run_at cycle 1 output))
 
 -- a refused record: the program's line of it
-unfoldable pub refusedPage : (number k : ℕ) → List ℕ
-refusedPage number k = page (refusedWords number k ∷ [])
+unfoldable pub refused_page : (number k : ℕ) → List ℕ
+refused_page number k = page (refused_words number k ∷ [])
 
-abbrev pub pageBy : Outcome → (number cycle : ℕ) → Working → (output : List ℕ) → List ℕ
-pageBy (Worked x) number cycle w output = workedPage number cycle w output
-pageBy (Refused k) number cycle w output = refusedPage number (refusalOf (Refused k))
-pageBy (Unsettled x) number cycle w output = refusedPage number (refusalOf (Unsettled x))
+abbrev pub page_by : Outcome → (number cycle : ℕ) → Working → (output : List ℕ) → List ℕ
+page_by (Worked x) number cycle w output = worked_page number cycle w output
+page_by (Refused k) number cycle w output = refused_page number (refusal_of (Refused k))
+page_by (Unsettled x) number cycle w output = refused_page number (refusal_of (Unsettled x))
 
-unfoldable pub recordPage : (number cycle : ℕ) → Working → (output : List ℕ) → List ℕ
-recordPage number cycle w output = pageBy w.outcome number cycle w output
+unfoldable pub record_page : (number cycle : ℕ) → Working → (output : List ℕ) → List ℕ
+record_page number cycle w output = page_by w.outcome number cycle w output
 
 -- where the record has worked, the output holds the through run
 pub record RunStands (cycle : ℕ) (w : Working) (output : List ℕ) : Type 0 where

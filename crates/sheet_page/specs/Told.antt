@@ -11,96 +11,96 @@ use Rattle.runs.specs.Runs.{run_at}
 use Rattle.working_outcome.specs.declared.Working.{Working}
 use Rattle.text.specs.Text.{decimal, column, columns}
 use Rattle.text.specs.Digits.{reads}
-use Rattle.text.specs.Columns.{column-at, column-read}
-use Rattle.page.specs.Page.{pageLines, lineEnd, line, page}
-use Rattle.page.specs.Laid.{lineRoom, page-line}
-use Rattle.sheet_page.specs.SheetPage.{pairWidth, pairUnit, flowWidth, flowUnit, rowSteps, rowsFor, pairWords, flowLines, headLines, sheetLines}
-use Rattle.sheet_page.specs.Fits.{SheetFits, pair-digits, flow-digits, pairs-within, flows-within, first_below}
-use Rattle.sheet_page.specs.Fits.{head-lines-count, sheet-fits, sheet-count}
+use Rattle.text.specs.Columns.{column_at, column_read}
+use Rattle.page.specs.Page.{page_lines, line_end, line, page}
+use Rattle.page.specs.Laid.{line_room, page_line}
+use Rattle.sheet_page.specs.SheetPage.{pair_width, pair_unit, flow_width, flow_unit, row_steps, rows_for, pair_words, flow_lines, head_lines, sheet_lines}
+use Rattle.sheet_page.specs.Fits.{SheetFits, pair_digits, flow_digits, pairs_within, flows_within, first_below}
+use Rattle.sheet_page.specs.Fits.{head_lines_count, sheet_fits, sheet_count}
 
 -- the columns of pair flow i, j: on the line of its entry, behind the record's line
-abbrev pub pairColumn : List ℕ → ℕ → ℕ → List ℕ
-pairColumn buffer i j = run_at pairWidth j (run_at lineRoom (1 + i) buffer)
+abbrev pub pair_column : List ℕ → ℕ → ℕ → List ℕ
+pair_column buffer i j = run_at pair_width j (run_at line_room (1 + i) buffer)
 
 -- the columns of step s of the run, counted from 0: on its row, behind the eight lines above
-abbrev pub flowColumn : List ℕ → ℕ → List ℕ
-flowColumn buffer s = run_at flowWidth (s % rowSteps) (run_at lineRoom (8 + s / rowSteps) buffer)
+abbrev pub flow_column : List ℕ → ℕ → List ℕ
+flow_column buffer s = run_at flow_width (s % row_steps) (run_at line_room (8 + s / row_steps) buffer)
 
 -- each pair flow right-aligned in its own 11 columns with at most eight digits, each step's thousands in their own 7 with at most five;
 -- and the columns read back
 pub record Told (pairs : ℕ → ℕ → ℕ) (run buffer : List ℕ) : Type 0 where
-  pub pairs-stand : (i j : ℕ) → i < 4 → j < 4 → pairColumn buffer i j ≡ column pairWidth (pairs i j)
-  pub pairs-digits : (i j : ℕ) → i < 4 → j < 4 → length (decimal (pairs i j)) ≤ 8
-  pub pairs-read : (i j : ℕ) → i < 4 → j < 4 → reads 0 (pairColumn buffer i j) ≡ pairs i j
-  pub flows-stand : (s : ℕ) → s < length run → flowColumn buffer s ≡ column flowWidth (get_or run s 0 / flowUnit)
-  pub flows-digits : (s : ℕ) → s < length run → length (decimal (get_or run s 0 / flowUnit)) ≤ 5
-  pub flows-read : (s : ℕ) → s < length run → reads 0 (flowColumn buffer s) ≡ get_or run s 0 / flowUnit
+  pub pairs_stand : (i j : ℕ) → i < 4 → j < 4 → pair_column buffer i j ≡ column pair_width (pairs i j)
+  pub pairs_digits : (i j : ℕ) → i < 4 → j < 4 → length (decimal (pairs i j)) ≤ 8
+  pub pairs_read : (i j : ℕ) → i < 4 → j < 4 → reads 0 (pair_column buffer i j) ≡ pairs i j
+  pub flows_stand : (s : ℕ) → s < length run → flow_column buffer s ≡ column flow_width (get_or run s 0 / flow_unit)
+  pub flows_digits : (s : ℕ) → s < length run → length (decimal (get_or run s 0 / flow_unit)) ≤ 5
+  pub flows_read : (s : ℕ) → s < length run → reads 0 (flow_column buffer s) ≡ get_or run s 0 / flow_unit
 
 -- row k of a run
-flow-line-at : (n : ℕ) (run : List ℕ) (k : ℕ) → k < n → get_or (flowLines n run) k [] ≡ columns flowWidth flowUnit (run_at rowSteps k run)
-unfolding flowLines
-flow-line-at zero run k m = absurd (omega arith)
-flow-line-at (suc n) run zero m = refl
-flow-line-at (suc n) run (suc k) m =
-    let e : suc k * rowSteps ≡ rowSteps + k * rowSteps = omega arith in
-    flow-line-at n (drop rowSteps run) k (omega arith)
-    ∙ ap (λ (l : List ℕ). columns flowWidth flowUnit (take rowSteps l)) (drop-drop (k * rowSteps) rowSteps run ∙ ap (λ (m : ℕ). drop m run) (sym e))
+flow_line_at : (n : ℕ) (run : List ℕ) (k : ℕ) → k < n → get_or (flow_lines n run) k [] ≡ columns flow_width flow_unit (run_at row_steps k run)
+unfolding flow_lines
+flow_line_at zero run k m = absurd (omega arith)
+flow_line_at (suc n) run zero m = refl
+flow_line_at (suc n) run (suc k) m =
+    let e : suc k * row_steps ≡ row_steps + k * row_steps = omega arith in
+    flow_line_at n (drop row_steps run) k (omega arith)
+    ∙ ap (λ (l : List ℕ). columns flow_width flow_unit (take row_steps l)) (drop-drop (k * row_steps) row_steps run ∙ ap (λ (m : ℕ). drop m run) (sym e))
 
 module _ {number cycle : ℕ} {w : Working} {run : List ℕ} (h : SheetFits number cycle w run) (behind : List ℕ) where
   abbrev sheet : List ℕ
-  sheet = page (sheetLines number cycle w run) ++ behind
+  sheet = page (sheet_lines number cycle w run) ++ behind
 
   abbrev pairs : ℕ → ℕ → ℕ
   pairs i j = get_or (get_or w.pairs.rows i []) j 0
 
-  text_of : (i : ℕ) → i < pageLines → run_at lineRoom i sheet ≡ line (get_or (sheetLines number cycle w run) i [])
-  text_of i m = page-line (sheet-fits h) (sheet-count h) behind i m
+  text_of : (i : ℕ) → i < page_lines → run_at line_room i sheet ≡ line (get_or (sheet_lines number cycle w run) i [])
+  text_of i m = page_line (sheet_fits h) (sheet_count h) behind i m
 
-  pair-text : (i : ℕ) → i < 4 → get_or (sheetLines number cycle w run) (1 + i) [] ≡ pairWords w.pairs.rows i
-  unfolding sheetLines headLines
-  pair-text zero m = refl
-  pair-text (suc zero) m = refl
-  pair-text (suc (suc zero)) m = refl
-  pair-text (suc (suc (suc zero))) m = refl
-  pair-text (suc (suc (suc (suc i)))) m = absurd (omega arith)
+  pair_text : (i : ℕ) → i < 4 → get_or (sheet_lines number cycle w run) (1 + i) [] ≡ pair_words w.pairs.rows i
+  unfolding sheet_lines head_lines
+  pair_text zero m = refl
+  pair_text (suc zero) m = refl
+  pair_text (suc (suc zero)) m = refl
+  pair_text (suc (suc (suc zero))) m = refl
+  pair_text (suc (suc (suc (suc i)))) m = absurd (omega arith)
 
-  pair-stands : (i j : ℕ) → i < 4 → j < 4 → pairColumn sheet i j ≡ column pairWidth (pairs i j)
+  pair_stands : (i j : ℕ) → i < 4 → j < 4 → pair_column sheet i j ≡ column pair_width (pairs i j)
   unfolding line
-  pair-stands i j m n =
+  pair_stands i j m n =
       let row = get_or w.pairs.rows i [] in
-      rw (text_of (1 + i) (omega arith), pair-text i m)
-      (column-at pairWidth pairUnit row (lineEnd (length (pairWords w.pairs.rows i))) (pairs-within row (λ k. h.pairs i k m)) j
+      rw (text_of (1 + i) (omega arith), pair_text i m)
+      (column_at pair_width pair_unit row (line_end (length (pair_words w.pairs.rows i))) (pairs_within row (λ k. h.pairs i k m)) j
       (omega (arith, h.four i m)) ∙ rw div-one)
 
-  flow-text : (k : ℕ) → k < rowsFor (length run) → get_or (sheetLines number cycle w run) (8 + k) [] ≡ columns flowWidth flowUnit (run_at rowSteps k run)
-  unfolding sheetLines
-  flow-text k m =
-      rw (← (head-lines-count number cycle w)) (get_or-append-add (headLines number cycle w) (flowLines (rowsFor (length run)) run) k [])
-      ∙ flow-line-at (rowsFor (length run)) run k m
+  flow_text : (k : ℕ) → k < rows_for (length run) → get_or (sheet_lines number cycle w run) (8 + k) [] ≡ columns flow_width flow_unit (run_at row_steps k run)
+  unfolding sheet_lines
+  flow_text k m =
+      rw (← (head_lines_count number cycle w)) (get_or-append-add (head_lines number cycle w) (flow_lines (rows_for (length run)) run) k [])
+      ∙ flow_line_at (rows_for (length run)) run k m
 
-  flow-stands : (s : ℕ) → s < length run → flowColumn sheet s ≡ column flowWidth (get_or run s 0 / flowUnit)
+  flow_stands : (s : ℕ) → s < length run → flow_column sheet s ≡ column flow_width (get_or run s 0 / flow_unit)
   unfolding line
-  flow-stands s m =
-      let k = s / rowSteps in
-      let q = s % rowSteps in
-      let row = run_at rowSteps k run in
-      let split : k * rowSteps + q ≡ s = omega arith in
-      let here : q < rowSteps = omega arith in
+  flow_stands s m =
+      let k = s / row_steps in
+      let q = s % row_steps in
+      let row = run_at row_steps k run in
+      let split : k * row_steps + q ≡ s = omega arith in
+      let here : q < row_steps = omega arith in
       let inside : q < length row = simp (length-take, length-drop) (omega arith) in
-      let number_is : get_or row q 0 ≡ get_or run s 0 = get_or-take rowSteps (drop (k * rowSteps) run) q 0 here ∙ get_or-drop (k * rowSteps) run q 0 ∙ rw split in
-      let below : (i : ℕ) → get_or row i 0 < 10 ^ 8 = first_below (10 ^ 8) rowSteps (drop (k * rowSteps) run) (omega arith)
-      (λ i. rw get_or-drop (h.flows (k * rowSteps + i))) in
-      rw (text_of (8 + k) (omega (arith, h.steps)), flow-text k (omega arith))
-      (column-at flowWidth flowUnit row (lineEnd (length (columns flowWidth flowUnit row))) (flows-within row below) q inside ∙ rw number_is)
+      let number_is : get_or row q 0 ≡ get_or run s 0 = get_or-take row_steps (drop (k * row_steps) run) q 0 here ∙ get_or-drop (k * row_steps) run q 0 ∙ rw split in
+      let below : (i : ℕ) → get_or row i 0 < 10 ^ 8 = first_below (10 ^ 8) row_steps (drop (k * row_steps) run) (omega arith)
+      (λ i. rw get_or-drop (h.flows (k * row_steps + i))) in
+      rw (text_of (8 + k) (omega (arith, h.steps)), flow_text k (omega arith))
+      (column_at flow_width flow_unit row (line_end (length (columns flow_width flow_unit row))) (flows_within row below) q inside ∙ rw number_is)
 
-  pub sheet-told : Told pairs run sheet
-  sheet-told =
+  pub sheet_told : Told pairs run sheet
+  sheet_told =
       record {
-        pairs-stand = pair-stands;
-        pairs-digits = λ i j m n. rw div-one at (pair-digits (pairs i j) (h.pairs i j m));
-        pairs-read = λ i j m n. rw (pair-stands i j m n) (column-read pairWidth (pairs i j) (omega (arith, h.pairs i j m)));
-        flows-stand = flow-stands;
-        flows-digits = λ s m. flow-digits (get_or run s 0) (h.flows s);
-        flows-read = λ s m. rw (flow-stands s m)
-            (column-read flowWidth (get_or run s 0 / flowUnit) (omega (arith, h.flows s, div-le_self (get_or run s 0) flowUnit)));
+        pairs_stand = pair_stands;
+        pairs_digits = λ i j m n. rw div-one at (pair_digits (pairs i j) (h.pairs i j m));
+        pairs_read = λ i j m n. rw (pair_stands i j m n) (column_read pair_width (pairs i j) (omega (arith, h.pairs i j m)));
+        flows_stand = flow_stands;
+        flows_digits = λ s m. flow_digits (get_or run s 0) (h.flows s);
+        flows_read = λ s m. rw (flow_stands s m)
+            (column_read flow_width (get_or run s 0 / flow_unit) (omega (arith, h.flows s, div-le_self (get_or run s 0) flow_unit)));
       }

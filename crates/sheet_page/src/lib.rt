@@ -2,10 +2,10 @@
 ghost use Rattle.std.specs.Prelude.{◌+◌, ◌≤◌, ◌<◌, length};
 ghost use Rattle.buffer.specs.Buffer.{Wrote};
 ghost use Rattle.page.specs.Page.{line, lines};
-ghost use Rattle.report_lines.specs.Lines.{exitWords, recordWords};
-ghost use Rattle.text.specs.Text.{columns, mostBlanks};
-ghost use Rattle.sheet_page.specs.SheetPage.{exitLines, flowLines, headLines, pairLines, pairUnit, pairWidth};
-ghost use Rattle.sheet_page.specs.SheetPage.{RunStands, recordPage, refusedPage, rowsFor, workedPage};
+ghost use Rattle.report_lines.specs.Lines.{exit_words, record_words};
+ghost use Rattle.text.specs.Text.{columns, most_blanks};
+ghost use Rattle.sheet_page.specs.SheetPage.{exit_lines, flow_lines, head_lines, pair_lines, pair_unit, pair_width};
+ghost use Rattle.sheet_page.specs.SheetPage.{RunStands, record_page, refused_page, rows_for, worked_page};
 
 use balance_decision::Outcome;
 use exit_figures::ExitFigures;
@@ -29,14 +29,14 @@ const ROW_STEPS: usize = 10;
 const HEAD_LINES: usize = 8;
 
 fn record_line(text: &mut [u8], at: usize, number: u32, cycle: u32, w: Working) -> usize
-    ensures { Wrote text.old at (line (recordWords number cycle w.arrival w.rounds)) text.new result }
+    ensures { Wrote text.old at (line (record_words number cycle w.arrival w.rounds)) text.new result }
 {
     let p = record_words(text, at, number, cycle, w.arrival, w.rounds);
     end_line(text, at, p)
 }
 
 fn exit_line(text: &mut [u8], at: usize, label: &[u8], f: ExitFigures) -> usize
-    ensures { Wrote text.old at (line (exitWords label.now f)) text.new result }
+    ensures { Wrote text.old at (line (exit_words label.now f)) text.new result }
 {
     let p = exit_words(text, at, label, f);
     end_line(text, at, p)
@@ -44,7 +44,7 @@ fn exit_line(text: &mut [u8], at: usize, label: &[u8], f: ExitFigures) -> usize
 
 // A line of numbers in columns.
 fn columns_line(text: &mut [u8], at: usize, width: usize, unit: u32, numbers: &[u32]) -> usize
-    requires { (width ≤ mostBlanks) × (0 < unit) }
+    requires { (width ≤ most_blanks) × (0 < unit) }
     ensures { Wrote text.old at (line (columns width unit numbers.now)) text.new result }
 {
     let p = append_columns(text, at, width, unit, numbers);
@@ -53,13 +53,13 @@ fn columns_line(text: &mut [u8], at: usize, width: usize, unit: u32, numbers: &[
 
 // The four pair flows of an entry.
 fn pair_line(text: &mut [u8], at: usize, row: [u32; 4]) -> usize
-    ensures { Wrote text.old at (line (columns pairWidth pairUnit row)) text.new result }
+    ensures { Wrote text.old at (line (columns pair_width pair_unit row)) text.new result }
 {
     columns_line(text, at, PAIR_WIDTH, PAIR_UNIT, &row)
 }
 
 fn pair_lines(text: &mut [u8], at: usize, rows: [[u32; 4]; 4]) -> usize
-    ensures { Wrote text.old at (lines (pairLines rows)) text.new result }
+    ensures { Wrote text.old at (lines (pair_lines rows)) text.new result }
 {
     let p = pair_line(text, at, rows[0]);
     let p = pair_line(text, p, rows[1]);
@@ -68,7 +68,7 @@ fn pair_lines(text: &mut [u8], at: usize, rows: [[u32; 4]; 4]) -> usize
 }
 
 fn exit_lines(text: &mut [u8], at: usize, w: Working) -> usize
-    ensures { Wrote text.old at (lines (exitLines w)) text.new result }
+    ensures { Wrote text.old at (lines (exit_lines w)) text.new result }
 {
     let p = exit_line(text, at, b"exit l total ", w.left);
     let p = exit_line(text, p, b"exit t total ", w.through);
@@ -77,7 +77,7 @@ fn exit_lines(text: &mut [u8], at: usize, w: Working) -> usize
 
 // Ten steps to a row, the last perhaps shorter.
 fn flow_lines(text: &mut [u8], at: usize, run: &[u32]) -> usize
-    ensures { Wrote text.old at (lines (flowLines (rowsFor (length run.now)) run.now)) text.new result }
+    ensures { Wrote text.old at (lines (flow_lines (rows_for (length run.now)) run.now)) text.new result }
 {
     let mut p = at;
     let mut i = 0;
@@ -90,7 +90,7 @@ fn flow_lines(text: &mut [u8], at: usize, run: &[u32]) -> usize
 }
 
 fn head_lines(text: &mut [u8], at: usize, number: u32, cycle: u32, w: Working) -> usize
-    ensures { Wrote text.old at (lines (headLines number cycle w)) text.new result }
+    ensures { Wrote text.old at (lines (head_lines number cycle w)) text.new result }
 {
     let p = record_line(text, at, number, cycle, w);
     let p = pair_lines(text, p, pair_flows::rows_of(w.pairs));
@@ -107,7 +107,7 @@ pub fn worked_page(
     output: &[u32],
 ) -> usize
     requires { cycle + cycle ≤ length output.now }
-    ensures { Wrote text.old at (workedPage number cycle w output.now) text.new result }
+    ensures { Wrote text.old at (worked_page number cycle w output.now) text.new result }
 {
     let one = cycle as usize;
     let p = head_lines(text, at, number, cycle, w);
@@ -117,7 +117,7 @@ pub fn worked_page(
 
 // The page of a refused record: its line, and blanks.
 pub fn refused_page(text: &mut [u8], at: usize, number: u32, k: u32) -> usize
-    ensures { Wrote text.old at (refusedPage number k) text.new result }
+    ensures { Wrote text.old at (refused_page number k) text.new result }
 {
     let p = refused_words(text, at, number, k);
     let p = end_line(text, at, p);
@@ -134,7 +134,7 @@ pub fn record_page(
     output: &[u32],
 ) -> usize
     requires { RunStands cycle w output.now }
-    ensures { Wrote text.old at (recordPage number cycle w output.now) text.new result }
+    ensures { Wrote text.old at (record_page number cycle w output.now) text.new result }
 {
     let outcome = w.outcome;
     match outcome {

@@ -14,11 +14,11 @@ pub record Spelling (n : ℕ) (d : List ℕ) (k rest : ℕ) : Type 0 where
   pub long : length d ≡ 20
   pub same : decimal n ≡ digits k rest ++ drop k d
 
-drop-set : (d : List ℕ) (j v : ℕ) → j < length d → drop j (set d j v) ≡ v ∷ drop (suc j) d
-drop-set d j v h = rw (set_split d j v h) (drop_at (take j d) (v ∷ drop (suc j) d) j (length-take-le j d (omega arith)))
+drop_set : (d : List ℕ) (j v : ℕ) → j < length d → drop j (set d j v) ≡ v ∷ drop (suc j) d
+drop_set d j v h = rw (set_split d j v h) (drop_at (take j d) (v ∷ drop (suc j) d) j (length-take-le j d (omega arith)))
 
-pub digit-start : (n : ℕ) (d : List ℕ) → length d ≡ 20 → Spelling n d 20 n
-digit-start n d h = record { within = omega arith; long = h; same = sym (rw (drop_of_length-le d {i = 20} (omega arith), append-nil)) }
+pub digit_start : (n : ℕ) (d : List ℕ) → length d ≡ 20 → Spelling n d 20 n
+digit_start n d h = record { within = omega arith; long = h; same = sym (rw (drop_of_length-le d {i = 20} (omega arith), append-nil)) }
 
 module _ {n : ℕ} {d : List ℕ} {k rest : ℕ} (r : Spelling n d k rest) where
   whole : 0 < k → decimal n ≡ digits (suc (k - 1)) rest ++ drop (suc (k - 1)) d
@@ -30,21 +30,21 @@ module _ {n : ℕ} {d : List ℕ} {k rest : ℕ} (r : Spelling n d k rest) where
       record {
         within = omega (arith, r.within);
         long = simp length-set r.long;
-        same = whole more ∙ rw (drop-set d (k - 1) (48 + rest % 10) (omega (arith, r.within, r.long)), ne_eqb (rest / 10) 0 ne, append_assoc);
+        same = whole more ∙ rw (drop_set d (k - 1) (48 + rest % 10) (omega (arith, r.within, r.long)), ne_eqb (rest / 10) 0 ne, append_assoc);
       }
 
-  pub digit-last : 0 < k → rest / 10 ≡ 0 → Spelt n (set d (k - 1) (48 + rest % 10)) (k - 1)
+  pub digit_last : 0 < k → rest / 10 ≡ 0 → Spelt n (set d (k - 1) (48 + rest % 10)) (k - 1)
   unfolding digits
-  digit-last more z =
+  digit_last more z =
       record {
         from = simp length-set (omega (arith, r.within, r.long));
         long = simp length-set r.long;
-        is = sym (whole more ∙ rw (drop-set d (k - 1) (48 + rest % 10) (omega (arith, r.within, r.long)), eq-eqb (rest / 10) 0 z));
+        is = sym (whole more ∙ rw (drop_set d (k - 1) (48 + rest % 10) (omega (arith, r.within, r.long)), eq-eqb (rest / 10) 0 z));
       }
 
-  pub digit-none : k ≤ 0 → Spelt n d 0
+  pub digit_none : k ≤ 0 → Spelt n d 0
   unfolding digits
-  digit-none h = let e : k ≡ 0 = omega arith in record { from = omega arith; long = r.long; is = sym (rw e at r.same) }
+  digit_none h = let e : k ≡ 0 = omega arith in record { from = omega arith; long = r.long; is = sym (rw e at r.same) }
 
-pub spelt-part : {n : ℕ} {d : List ℕ} {k : ℕ} → Spelt n d k → take (20 - k) (drop k d) ≡ decimal n
-spelt-part {n} {d} {k} s = take_all (20 - k) (drop k d) (simp length-drop (omega (arith, s.long))) ∙ s.is
+pub spelt_part : {n : ℕ} {d : List ℕ} {k : ℕ} → Spelt n d k → take (20 - k) (drop k d) ≡ decimal n
+spelt_part {n} {d} {k} s = take_all (20 - k) (drop k d) (simp length-drop (omega (arith, s.long))) ∙ s.is

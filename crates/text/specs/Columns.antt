@@ -4,102 +4,102 @@ use Rattle.std.specs.Prelude.{ℕ, zero, suc, ◌+◌, ◌-◌, ◌*◌, ◌/◌
 use Rattle.std.proofs.Common.{arith, ap, sym, ◌∙◌, append_assoc, length-append, le-leb}
 use Rattle.std.proofs.Math.Bool.{and_assoc}
 use Rattle.std.proofs.lemmas.List.{length-replicate}
-use Rattle.runs.specs.Runs.{run_at, run-first, run-behind}
+use Rattle.runs.specs.Runs.{run_at, run_first, run_behind}
 use Rattle.text.specs.Text.{digits, decimal, field, blanks, column, columns}
-use Rattle.text.specs.Digits.{reads, digits-length, decimal-read}
+use Rattle.text.specs.Digits.{reads, digits_length, decimal_read}
 
 -- ---- widths
 
 -- a number below a power of ten has as many digits at most
-pub decimal-length : (j n : ℕ) → n < 10 ^ suc j → length (decimal n) ≤ suc j
-decimal-length j n h = digits-length 20 j n h
+pub decimal_length : (j n : ℕ) → n < 10 ^ suc j → length (decimal n) ≤ suc j
+decimal_length j n h = digits_length 20 j n h
 
-pub column-length : (width n : ℕ) → length (decimal n) ≤ width → length (column width n) ≡ width
+pub column_length : (width n : ℕ) → length (decimal n) ≤ width → length (column width n) ≡ width
 unfolding column
-column-length width n h = rw (length-append, length-replicate) (omega arith)
+column_length width n h = rw (length-append, length-replicate) (omega arith)
 
 -- numbers whose digits fit their columns
 abbrev pub Within : (width unit : ℕ) → List ℕ → Type 0
 Within width unit ns = (i : ℕ) → length (decimal (get_or ns i 0 / unit)) ≤ width
 
-pub columns-length : (width unit : ℕ) (ns : List ℕ) → Within width unit ns → length (columns width unit ns) ≡ length ns * width
+pub columns_length : (width unit : ℕ) (ns : List ℕ) → Within width unit ns → length (columns width unit ns) ≡ length ns * width
 unfolding columns
-columns-length width unit [] h = omega arith
-columns-length width unit (n ∷ ns) h =
-    rw (length-append, column-length width (n / unit) (h 0), columns-length width unit ns (λ i. h (suc i))) (omega arith)
+columns_length width unit [] h = omega arith
+columns_length width unit (n ∷ ns) h =
+    rw (length-append, column_length width (n / unit) (h 0), columns_length width unit ns (λ i. h (suc i))) (omega arith)
 
 -- column i, whatever stands behind the columns
-pub column-at : (width unit : ℕ) (ns behind : List ℕ) → Within width unit ns → (i : ℕ) → i < length ns →
+pub column_at : (width unit : ℕ) (ns behind : List ℕ) → Within width unit ns → (i : ℕ) → i < length ns →
     run_at width i (columns width unit ns ++ behind) ≡ column width (get_or ns i 0 / unit)
 unfolding columns
-column-at width unit [] behind h i m = absurd (omega arith)
-column-at width unit (n ∷ ns) behind h zero m =
-    rw append_assoc (run-first width (column width (n / unit)) (columns width unit ns ++ behind) (column-length width (n / unit) (h 0)))
-column-at width unit (n ∷ ns) behind h (suc i) m =
+column_at width unit [] behind h i m = absurd (omega arith)
+column_at width unit (n ∷ ns) behind h zero m =
+    rw append_assoc (run_first width (column width (n / unit)) (columns width unit ns ++ behind) (column_length width (n / unit) (h 0)))
+column_at width unit (n ∷ ns) behind h (suc i) m =
     rw append_assoc
-    (run-behind width (column width (n / unit)) (columns width unit ns ++ behind) (column-length width (n / unit) (h 0)) i
-    ∙ column-at width unit ns behind (λ k. h (suc k)) i (omega arith))
+    (run_behind width (column width (n / unit)) (columns width unit ns ++ behind) (column_length width (n / unit) (h 0)) i
+    ∙ column_at width unit ns behind (λ k. h (suc k)) i (omega arith))
 
 -- ---- reading
 
 -- a blank before the digits reads as no digit: 32 - 48 is 0
-reads-blanks : (n : ℕ) (ds : List ℕ) → reads 0 (blanks n ++ ds) ≡ reads 0 ds
+reads_blanks : (n : ℕ) (ds : List ℕ) → reads 0 (blanks n ++ ds) ≡ reads 0 ds
 unfolding reads
-reads-blanks zero ds = refl
-reads-blanks (suc n) ds = reads-blanks n ds
+reads_blanks zero ds = refl
+reads_blanks (suc n) ds = reads_blanks n ds
 
-pub column-read : (width n : ℕ) → n < 2 ^ 64 → reads 0 (column width n) ≡ n
+pub column_read : (width n : ℕ) → n < 2 ^ 64 → reads 0 (column width n) ≡ n
 unfolding column
-column-read width n h = reads-blanks (width - length (decimal n)) (decimal n) ∙ decimal-read n h
+column_read width n h = reads_blanks (width - length (decimal n)) (decimal n) ∙ decimal_read n h
 
 -- ---- printed bytes
 
 -- from 32, a blank, to 126
-abbrev pub printedByte : ℕ → Bool
-printedByte b = leb 32 b && leb b 126
+abbrev pub printed_byte : ℕ → Bool
+printed_byte b = leb 32 b && leb b 126
 
 unfoldable pub printed : List ℕ → Bool
 printed [] = true
-printed (b ∷ bs) = printedByte b && printed bs
+printed (b ∷ bs) = printed_byte b && printed bs
 
-printed-join : (a b : List ℕ) → printed (a ++ b) ≡ (printed a && printed b)
+printed_join : (a b : List ℕ) → printed (a ++ b) ≡ (printed a && printed b)
 unfolding printed
-printed-join [] b = refl
-printed-join (x ∷ a) b = ap (λ (t : Bool). printedByte x && t) (printed-join a b) ∙ sym (and_assoc (printedByte x) (printed a) (printed b))
+printed_join [] b = refl
+printed_join (x ∷ a) b = ap (λ (t : Bool). printed_byte x && t) (printed_join a b) ∙ sym (and_assoc (printed_byte x) (printed a) (printed b))
 
-pub printed-append : (a b : List ℕ) → printed a ≡ true → printed b ≡ true → printed (a ++ b) ≡ true
-printed-append a b ha hb = printed-join a b ∙ rw (ha, hb)
+pub printed_append : (a b : List ℕ) → printed a ≡ true → printed b ≡ true → printed (a ++ b) ≡ true
+printed_append a b ha hb = printed_join a b ∙ rw (ha, hb)
 
-pub printed-blanks : (n : ℕ) → printed (blanks n) ≡ true
+pub printed_blanks : (n : ℕ) → printed (blanks n) ≡ true
 unfolding printed
-printed-blanks zero = refl
-printed-blanks (suc n) = printed-blanks n
+printed_blanks zero = refl
+printed_blanks (suc n) = printed_blanks n
 
-digit-printed : (n : ℕ) → printed ((48 + n % 10) ∷ []) ≡ true
+digit_printed : (n : ℕ) → printed ((48 + n % 10) ∷ []) ≡ true
 unfolding printed
-digit-printed n = rw (le-leb 32 (48 + n % 10) (omega arith), le-leb (48 + n % 10) 126 (omega arith))
+digit_printed n = rw (le-leb 32 (48 + n % 10) (omega arith), le-leb (48 + n % 10) 126 (omega arith))
 
-digits-printed : (k n : ℕ) → printed (digits k n) ≡ true
+digits_printed : (k n : ℕ) → printed (digits k n) ≡ true
 unfolding digits printed
-digits-printed zero n = refl
-digits-printed (suc k) n = go (eqb (n / 10) 0) (digits-printed k (n / 10))
+digits_printed zero n = refl
+digits_printed (suc k) n = go (eqb (n / 10) 0) (digits_printed k (n / 10))
   where
     go : (b : Bool) → printed (digits k (n / 10)) ≡ true → printed (cond b ((48 + n % 10) ∷ []) (digits k (n / 10) ++ ((48 + n % 10) ∷ []))) ≡ true
-    go true h = digit-printed n
-    go false h = printed-append (digits k (n / 10)) ((48 + n % 10) ∷ []) h (digit-printed n)
+    go true h = digit_printed n
+    go false h = printed_append (digits k (n / 10)) ((48 + n % 10) ∷ []) h (digit_printed n)
 
-pub field-printed : (label : List ℕ) (n : ℕ) → printed label ≡ true → printed (field label n) ≡ true
+pub field_printed : (label : List ℕ) (n : ℕ) → printed label ≡ true → printed (field label n) ≡ true
 unfolding field
-field-printed label n h = printed-append label (decimal n) h (digits-printed 20 n)
+field_printed label n h = printed_append label (decimal n) h (digits_printed 20 n)
 
-column-printed : (width n : ℕ) → printed (column width n) ≡ true
+column_printed : (width n : ℕ) → printed (column width n) ≡ true
 unfolding column
-column-printed width n =
+column_printed width n =
     let lack : ℕ = width - length (decimal n) in
-    printed-append (blanks lack) (decimal n) (printed-blanks lack) (digits-printed 20 n)
+    printed_append (blanks lack) (decimal n) (printed_blanks lack) (digits_printed 20 n)
 
-pub columns-printed : (width unit : ℕ) (ns : List ℕ) → printed (columns width unit ns) ≡ true
+pub columns_printed : (width unit : ℕ) (ns : List ℕ) → printed (columns width unit ns) ≡ true
 unfolding columns printed
-columns-printed width unit [] = refl
-columns-printed width unit (n ∷ ns) =
-    printed-append (column width (n / unit)) (columns width unit ns) (column-printed width (n / unit)) (columns-printed width unit ns)
+columns_printed width unit [] = refl
+columns_printed width unit (n ∷ ns) =
+    printed_append (column width (n / unit)) (columns width unit ns) (column_printed width (n / unit)) (columns_printed width unit ns)

@@ -34,5 +34,5 @@ columns width unit [] = []
 columns width unit (n ∷ ns) = column width (n / unit) ++ columns width unit ns
 
 -- the most blanks of one call: a line of the print room
-abbrev pub mostBlanks : ℕ
-mostBlanks = 72
+abbrev pub most_blanks : ℕ
+most_blanks = 72

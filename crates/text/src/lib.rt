@@ -1,7 +1,7 @@
 // Numbers, labels, blanks and columns appended to a lent buffer, as much of them as it has room for.
 ghost use Rattle.std.specs.Prelude.{◌≡◌, ◌-◌, ◌≤◌, ◌<◌, length};
 ghost use Rattle.buffer.specs.Buffer.{Wrote};
-ghost use Rattle.text.specs.Text.{Spelt, blanks, column, columns, decimal, field, mostBlanks};
+ghost use Rattle.text.specs.Text.{Spelt, blanks, column, columns, decimal, field, most_blanks};
 
 // The most blanks of one call.
 const BLANK_ROOM: usize = 72;
@@ -42,7 +42,7 @@ pub fn append_field(text: &mut [u8], at: usize, label: &[u8], n: u64) -> usize
 
 // So many blanks.
 pub fn append_blanks(text: &mut [u8], at: usize, n: usize) -> usize
-    requires { n ≤ mostBlanks }
+    requires { n ≤ most_blanks }
     ensures { Wrote text.old at (blanks n) text.new result }
 {
     let row = [b' '; BLANK_ROOM];
@@ -61,7 +61,7 @@ pub fn lacking(width: usize, count: usize) -> usize
 
 // A number right-aligned in a column of so many bytes.
 pub fn append_column(text: &mut [u8], at: usize, width: usize, n: u64) -> usize
-    requires { width ≤ mostBlanks }
+    requires { width ≤ most_blanks }
     ensures { Wrote text.old at (column width n) text.new result }
 {
     let mut places = [0u8; 20];
@@ -72,7 +72,7 @@ pub fn append_column(text: &mut [u8], at: usize, width: usize, n: u64) -> usize
 
 // Numbers one after another, each in a column of its own, in whole units.
 pub fn append_columns(text: &mut [u8], at: usize, width: usize, unit: u32, numbers: &[u32]) -> usize
-    requires { (width ≤ mostBlanks) × (0 < unit) }
+    requires { (width ≤ most_blanks) × (0 < unit) }
     ensures { Wrote text.old at (columns width unit numbers.now) text.new result }
 {
     let mut p = at;

@@ -1,6 +1,6 @@
 // The tests of a segment record: accepted, or refused by the lowest of the numbers 6 to 12.
 ghost use Rattle.std.specs.Prelude.{◌≡◌};
-ghost use Rattle.validation.specs.Validation.{checkOf, checkedOf};
+ghost use Rattle.validation.specs.Validation.{check_of, checked_of};
 
 use segment::Segment;
 
@@ -13,7 +13,7 @@ pub enum Checked {
 
 // The segment of a record, or the lowest of the refusals 6 to 12 that its bytes meet.
 pub fn check(bytes: &[u8]) -> Checked
-    ensures { result ≡ checkedOf (checkOf bytes.now) }
+    ensures { result ≡ checked_of (check_of bytes.now) }
 {
     if bytes.len() != segment::SIZE {
         return Checked::Refused(6);

@@ -12,33 +12,33 @@ unfoldable pub pattern : ℕ → ℕ → List ℕ
 pattern first n = tab (λ i. first + i) 0 n
 
 -- a lent buffer
-unfoldable pub bytePattern : ℕ → List ℕ
-bytePattern n = tab (λ i. i % 251) 0 n
+unfoldable pub byte_pattern : ℕ → List ℕ
+byte_pattern n = tab (λ i. i % 251) 0 n
 
 -- some number is not the four bytes that stand for it, from a place on
-unfoldable pub wordsDiffer : List ℕ → ℕ → List ℕ → Bool
-wordsDiffer l at [] = false
-wordsDiffer l at (x ∷ xs) = not (eqb (word4 l at) x) || wordsDiffer l (at + 4) xs
+unfoldable pub words_differ : List ℕ → ℕ → List ℕ → Bool
+words_differ l at [] = false
+words_differ l at (x ∷ xs) = not (eqb (word4 l at) x) || words_differ l (at + 4) xs
 
 -- some number of a profile is not, or too few bytes stand there
-unfoldable pub profileDiffers : List ℕ → List ℕ → Bool
-profileDiffers l run = ltb (length l) (4 * length run) || wordsDiffer l 0 run
+unfoldable pub profile_differs : List ℕ → List ℕ → Bool
+profile_differs l run = ltb (length l) (4 * length run) || words_differ l 0 run
 
 -- some of the sixteen pair flows is not, row after row
-unfoldable pub rowsDiffer : List ℕ → ℕ → List (List ℕ) → Bool
-rowsDiffer l at rows =
-    wordsDiffer l at (get_or rows 0 [])
-    || wordsDiffer l (at + 16) (get_or rows 1 [])
-    || wordsDiffer l (at + 32) (get_or rows 2 [])
-    || wordsDiffer l (at + 48) (get_or rows 3 [])
+unfoldable pub rows_differ : List ℕ → ℕ → List (List ℕ) → Bool
+rows_differ l at rows =
+    words_differ l at (get_or rows 0 [])
+    || words_differ l (at + 16) (get_or rows 1 [])
+    || words_differ l (at + 32) (get_or rows 2 [])
+    || words_differ l (at + 48) (get_or rows 3 [])
 
 -- the eight bytes from a place on are not a float's bits
-unfoldable pub floatDiffers : List ℕ → ℕ → Float → Bool
-floatDiffers l at x = not (eqb (word8 l at) (to_bits binary64 x))
+unfoldable pub float_differs : List ℕ → ℕ → Float → Bool
+float_differs l at x = not (eqb (word8 l at) (to_bits binary64 x))
 
 -- N cases, M differs
-unfoldable pub closingLine : ℕ → ℕ → List ℕ
-closingLine cases differing =
+unfoldable pub closing_line : ℕ → ℕ → List ℕ
+closing_line cases differing =
     decimal cases
     ++ field (bytes " cases, ") differing
     ++ bytes " differs\n"

@@ -4,7 +4,7 @@ ghost use Rattle.std.specs.Float.{binary64};
 ghost use Rattle.std.specs.Float.Ieee.{to_bits};
 ghost use Rattle.octets.specs.Octets.{word4};
 ghost use Rattle.buffer.specs.Buffer.{Wrote};
-ghost use Rattle.vectors.specs.Vectors.{bytePattern, closingLine, floatDiffers, pattern, profileDiffers, rowsDiffer, wordsDiffer};
+ghost use Rattle.vectors.specs.Vectors.{byte_pattern, closing_line, float_differs, pattern, profile_differs, rows_differ, words_differ};
 
 use libc::{STDIN_FILENO, STDOUT_FILENO};
 
@@ -55,7 +55,7 @@ pub fn differing(i: u32, before: u32) -> u32
 
 // How many cases there were and how many of them differ, in the front of a lent buffer; the length is handed back.
 fn closing_line(line: &mut [u8], cases: u32, differing: u32) -> usize
-    ensures { Wrote line.old 0 (closingLine cases differing) line.new result }
+    ensures { Wrote line.old 0 (closing_line cases differing) line.new result }
 {
     let p = text::append_decimal(line, 0, cases as u64);
     let q = text::append_field(line, p, b" cases, ", differing as u64);
@@ -64,7 +64,7 @@ fn closing_line(line: &mut [u8], cases: u32, differing: u32) -> usize
 
 // Writes the closing line, and leaves it in the lent buffer.
 pub fn finish(line: &mut [u8], cases: u32, differing: u32) -> usize
-    ensures { Wrote line.old 0 (closingLine cases differing) line.new result }
+    ensures { Wrote line.old 0 (closing_line cases differing) line.new result }
 {
     let n = closing_line(line, cases, differing);
     io::write_all(STDOUT_FILENO, &line[..n]);
@@ -85,7 +85,7 @@ pub fn fill_pattern(run: &mut [u32], first: u32)
 
 // A buffer as it is lent: place i holds i mod 251.
 pub fn fill_bytes(buffer: &mut [u8])
-    ensures { buffer.new ≡ bytePattern (length buffer.old) }
+    ensures { buffer.new ≡ byte_pattern (length buffer.old) }
 {
     let mut i = 0;
     while i < buffer.len() {
@@ -97,7 +97,7 @@ pub fn fill_bytes(buffer: &mut [u8])
 // Whether some number of a run differs from the one expected, four bytes each from a place on.
 pub fn numbers_differ(expected: &[u8], at: usize, run: &[u32]) -> bool
     requires { at + 4 * length run.now ≤ length expected.now }
-    ensures { result ≡ wordsDiffer expected.now at run.now }
+    ensures { result ≡ words_differ expected.now at run.now }
 {
     let mut differ = false;
     let mut i = 0;
@@ -110,7 +110,7 @@ pub fn numbers_differ(expected: &[u8], at: usize, run: &[u32]) -> bool
 
 // Whether a profile differs from the numbers in front; too few differ.
 pub fn profile_differs(expected: &[u8], run: &[u32]) -> bool
-    ensures { result ≡ profileDiffers expected.now run.now }
+    ensures { result ≡ profile_differs expected.now run.now }
 {
     if expected.len() / 4 < run.len() {
         return true;
@@ -130,7 +130,7 @@ pub fn after<'a>(expected: &'a [u8], n: usize) -> &'a [u8]
 
 fn row_differs(expected: &[u8], at: usize, row: [u32; 4]) -> bool
     requires { at + 16 ≤ length expected.now }
-    ensures { result ≡ wordsDiffer expected.now at row }
+    ensures { result ≡ words_differ expected.now at row }
 {
     numbers_differ(expected, at, &row)
 }
@@ -138,7 +138,7 @@ fn row_differs(expected: &[u8], at: usize, row: [u32; 4]) -> bool
 // Whether some of the sixteen pair flows differs, in rows from a place on.
 pub fn rows_differ(expected: &[u8], at: usize, rows: [[u32; 4]; 4]) -> bool
     requires { at + 64 ≤ length expected.now }
-    ensures { result ≡ rowsDiffer expected.now at rows }
+    ensures { result ≡ rows_differ expected.now at rows }
 {
     row_differs(expected, at, rows[0])
         | row_differs(expected, at + 16, rows[1])
@@ -159,7 +159,7 @@ fn bits(x: f64) -> u64
 // Whether a float differs from the bits expected.
 pub fn float_differs(expected: &[u8], at: usize, x: f64) -> bool
     requires { at + 8 ≤ length expected.now }
-    ensures { result ≡ floatDiffers expected.now at x }
+    ensures { result ≡ float_differs expected.now at x }
 {
     octets::word8_at(expected, at) != bits(x)
 }

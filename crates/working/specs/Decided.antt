@@ -6,31 +6,31 @@ use Rattle.std.proofs.lemmas.Bool.{not-true}
 use Rattle.refusal.specs.Refusal.{refused, both, Test, each}
 use Rattle.lists.specs.Lists.{sum}
 use Rattle.movements.specs.declared.Counts.{Counts}
-use Rattle.movements.specs.Movements.{flowUnits}
+use Rattle.movements.specs.Movements.{flow_units}
 use Rattle.segment.specs.declared.Segment.{Segment}
 use Rattle.ranges.specs.Ranges.{Ranges}
-use Rattle.validation.specs.Accepting.{acceptWith, accept-numbers}
+use Rattle.validation.specs.Accepting.{accept_with, accept_numbers}
 use Rattle.balance_flows.specs.declared.Flows.{Flows}
 use Rattle.balance_flows.specs.declared.FlowTable.{FlowTable}
 use Rattle.balance_flows.specs.Flows.{zero64}
-use Rattle.metering.specs.Metering.{dischargeVolumes, dischargeUnits}
-use Rattle.balance_pairs.specs.Pairs.{pairRow, pairRows, row-adds}
+use Rattle.metering.specs.Metering.{discharge_volumes, discharge_units}
+use Rattle.balance_pairs.specs.Pairs.{pair_row, pair_rows, row_adds_lem}
 use Rattle.balance_decision.specs.declared.Outcome.{Outcome}
 use Rattle.balance_decision.specs.declared.Outcome.TheVariants.{Worked, Refused}
 use Rattle.balance_decision.specs.declared.Decision.{Decision}
-use Rattle.balance_decision.specs.Outcome.{outcomeOf, refusalOf}
-use Rattle.balance_decision.specs.Meaning.{from-cells}
-use Rattle.propagation.specs.Propagation.{Profiles, filledOf}
+use Rattle.balance_decision.specs.Outcome.{outcome_of, refusal_of}
+use Rattle.balance_decision.specs.Meaning.{from_cells}
+use Rattle.propagation.specs.Propagation.{Profiles, filled_of}
 use Rattle.propagation.specs.Steps.{Room, RowsFit}
 use Rattle.accuracy.specs.Accuracy.{Accurate}
-use Rattle.accuracy.specs.Holds.{filled-accurate}
+use Rattle.accuracy.specs.Holds.{filled_accurate}
 use Rattle.working_outcome.specs.declared.Working.{Working}
-use Rattle.working_outcome.specs.Answer.{workedOf}
-use Rattle.working.specs.Working.{fits, decisionFor, Called, called, byOutcome, byDecision, decided-outcome}
+use Rattle.working_outcome.specs.Answer.{worked_of}
+use Rattle.working.specs.Working.{fits, decision_for, Called, called, by_outcome, by_decision, decided_outcome}
 
 -- profiles that pass the test of their lengths have room
-pub fits-room : (s : Segment) (p : Profiles) → fits (length p.output) (length p.first) (length p.second) s ≡ true → Room s.cycle p
-fits-room s p e =
+pub fits_room : (s : Segment) (p : Profiles) → fits (length p.output) (length p.first) (length p.second) s ≡ true → Room s.cycle p
+fits_room s p e =
     let c = s.cycle in
     let t = both (leb (4 * c) (length p.output) && leb c (length p.first)) (leb c (length p.second)) e in
     let u = both (leb (4 * c) (length p.output)) (leb c (length p.first)) t.0 in
@@ -40,65 +40,65 @@ fits-room s p e =
 pub record Decided (s : Segment) (sum : Float) (d : Decision) (p : Profiles) : Type 0 where
   pub ranges : Ranges s
   pub room : Room s.cycle p
-  pub is : d ≡ decisionFor s
+  pub is : d ≡ decision_for s
   pub works : d.outcome ≡ Worked sum
 
 -- ---- the pair flows of what is not refused fit their entries
 
 -- a number of a row is no more than their sum
-number-le : (l : List ℕ) (j : ℕ) → get_or l j 0 ≤ sum l
+number_le : (l : List ℕ) (j : ℕ) → get_or l j 0 ≤ sum l
 unfolding sum
-number-le [] j = omega arith
-number-le (x ∷ l) zero = omega arith
-number-le (x ∷ l) (suc j) = omega (arith, number-le l j)
+number_le [] j = omega arith
+number_le (x ∷ l) zero = omega arith
+number_le (x ∷ l) (suc j) = omega (arith, number_le l j)
 
-row-le : (cells : Flows) (all j : ℕ) → get_or (pairRow cells all) j 0 ≤ all
-row-le cells all j = omega (arith, number-le (pairRow cells all) j, row-adds cells all)
+row_le : (cells : Flows) (all j : ℕ) → get_or (pair_row cells all) j 0 ≤ all
+row_le cells all j = omega (arith, number_le (pair_row cells all) j, row_adds_lem cells all)
 
-rows_four : (cells : FlowTable) (o : Counts) (i : ℕ) → i < 4 → length (get_or (pairRows cells o) i []) ≡ 4
-unfolding pairRows
+rows_four : (cells : FlowTable) (o : Counts) (i : ℕ) → i < 4 → length (get_or (pair_rows cells o) i []) ≡ 4
+unfolding pair_rows
 rows_four cells o zero h = refl
 rows_four cells o (suc zero) h = refl
 rows_four cells o (suc (suc zero)) h = refl
 rows_four cells o (suc (suc (suc zero))) h = refl
 rows_four cells o (suc (suc (suc (suc i)))) h = absurd (omega arith)
 
-pub rows_fit : (s : Segment) → refusalOf (decisionFor s).outcome ≡ 0 → RowsFit s (decisionFor s).pairs.rows
-unfolding decisionFor dischargeVolumes pairRows
+pub rows_fit : (s : Segment) → refusal_of (decision_for s).outcome ≡ 0 → RowsFit s (decision_for s).pairs.rows
+unfolding decision_for discharge_volumes pair_rows
 rows_fit s e =
-    let f = from-cells (dischargeVolumes s) s.exits s.seeds e in
+    let f = from_cells (discharge_volumes s) s.exits s.seeds e in
     let c = f.cells in
     rw f.rows
     (record {
-      four = rows_four c (dischargeVolumes s);
-      left = row-le c.left (dischargeUnits s.cycle s.left);
-      through = row-le c.through (dischargeUnits s.cycle s.through);
-      right = row-le c.right (dischargeUnits s.cycle s.right);
-      access = row-le c.access (flowUnits s.access);
+      four = rows_four c (discharge_volumes s);
+      left = row_le c.left (discharge_units s.cycle s.left);
+      through = row_le c.through (discharge_units s.cycle s.through);
+      right = row_le c.right (discharge_units s.cycle s.right);
+      access = row_le c.access (flow_units s.access);
     })
 
 -- ---- demand 3 of whatever is worked
 
-pub decided-accurate : (s : Segment) → Ranges s → (p : Profiles) (w : Working) (p' : Profiles) → called w p' ≡ byDecision s (decisionFor s) p →
+pub decided_accurate : (s : Segment) → Ranges s → (p : Profiles) (w : Working) (p' : Profiles) → called w p' ≡ by_decision s (decision_for s) p →
     (x : Float) → w.outcome ≡ Worked x → Accurate s w.pairs.rows p'
-unfolding workedOf
-decided-accurate s r p w p' q x ew =
-    let d = decisionFor s in
-    let eo : d.outcome ≡ Worked x = sym (ap (λ (c : Called). c.answer.outcome) q ∙ decided-outcome s d p) ∙ ew in
-    let worked : called w p' ≡ byOutcome (Worked x) s d p = q ∙ ap (λ (o : Outcome). byOutcome o s d p) eo in
+unfolding worked_of
+decided_accurate s r p w p' q x ew =
+    let d = decision_for s in
+    let eo : d.outcome ≡ Worked x = sym (ap (λ (c : Called). c.answer.outcome) q ∙ decided_outcome s d p) ∙ ew in
+    let worked : called w p' ≡ by_outcome (Worked x) s d p = q ∙ ap (λ (o : Outcome). by_outcome o s d p) eo in
     let rows : w.pairs.rows ≡ d.pairs.rows = ap (λ (c : Called). c.answer.pairs.rows) worked in
-    let left : p' ≡ filledOf s d.pairs.rows p = ap (λ (c : Called). c.after) worked in
-    rw (rows, left) (filled-accurate s d.pairs.rows p r (rows_fit s (ap refusalOf eo)))
+    let left : p' ≡ filled_of s d.pairs.rows p = ap (λ (c : Called). c.after) worked in
+    rw (rows, left) (filled_accurate s d.pairs.rows p r (rows_fit s (ap refusal_of eo)))
 
 -- ---- the refusals of the record, and of a call's own tests
 
 -- a number that tells no more than itself: 0 is worked, and 15 tells a sum
-abbrev pub plainNumber : ℕ → Bool → Bool
-plainNumber n holds = not (eqb n 0) && not (eqb n 15)
+abbrev pub plain_number : ℕ → Bool → Bool
+plain_number n holds = not (eqb n 0) && not (eqb n 15)
 
 -- the record's numbers are plain; where the call's own are, a refusal by a test is told by its number
-pub own-case : (l : List ℕ) (own : Segment → List Test) → ((s : Segment) → each plainNumber (own s) ≡ true) →
-    (n : ℕ) → acceptWith l own ≡ refused n → outcomeOf n zero64 ≡ Refused n
-own-case l own plain n e =
-    let k = both (not (eqb n 0)) (not (eqb n 15)) (accept-numbers l own plainNumber refl plain n e) in
+pub own_case : (l : List ℕ) (own : Segment → List Test) → ((s : Segment) → each plain_number (own s) ≡ true) →
+    (n : ℕ) → accept_with l own ≡ refused n → outcome_of n zero64 ≡ Refused n
+own_case l own plain n e =
+    let k = both (not (eqb n 0)) (not (eqb n 15)) (accept_numbers l own plain_number refl plain n e) in
     rw (not-true (eqb n 0) k.0, not-true (eqb n 15) k.1)

@@ -1,11 +1,11 @@
 // The working of a segment record: everything is decided first, then the lent profiles are filled.
 ghost use Rattle.std.specs.Prelude.{◌≡◌};
 ghost use Rattle.ranges.specs.Ranges.{Ranges};
-ghost use Rattle.validation.specs.Validation.{checkedOf};
+ghost use Rattle.validation.specs.Validation.{checked_of};
 ghost use Rattle.balance_decision.specs.declared.Outcome.TheVariants.{Worked};
 ghost use Rattle.propagation.specs.Propagation.{lent};
 ghost use Rattle.propagation.specs.Steps.{Room};
-ghost use Rattle.working.specs.Working.{Works, acceptOf, byDecision, byOutcome, called, decisionFor};
+ghost use Rattle.working.specs.Working.{Works, accept_of, by_decision, by_outcome, called, decision_for};
 ghost use Rattle.working.specs.Decided.{Decided};
 
 use balance_decision::{Decision, Outcome};
@@ -15,7 +15,7 @@ use working_outcome::Working;
 
 // The refusals of the record and of the lent profiles' lengths.
 pub fn accept(bytes: &[u8], output: usize, first: usize, second: usize) -> Checked
-    ensures { result ≡ checkedOf (acceptOf bytes.now output first second) }
+    ensures { result ≡ checked_of (accept_of bytes.now output first second) }
 {
     let checked = validation::check(bytes);
     match checked {
@@ -34,7 +34,7 @@ pub fn accept(bytes: &[u8], output: usize, first: usize, second: usize) -> Check
 // What the volumes of an accepted record decide: 13, 14, 15, or its pair flows. Nothing is written.
 pub fn decide(s: Segment) -> Decision
     requires { Ranges s }
-    ensures { result ≡ decisionFor s }
+    ensures { result ≡ decision_for s }
 {
     balance_decision::decide(metering::discharge_volumes(s), s.exits, s.seeds)
 }
@@ -50,7 +50,7 @@ pub fn fill(
 ) -> Working
     requires { Decided s sum decision (lent output first second) }
     ensures { called result (lent output.exit first.exit second.exit)
-        ≡ byOutcome (Worked sum) s (decisionFor s) (lent output.entry first.entry second.entry) }
+        ≡ by_outcome (Worked sum) s (decision_for s) (lent output.entry first.entry second.entry) }
 {
     propagation::fill(
         s,
@@ -72,7 +72,7 @@ pub fn work_accepted(
 ) -> Working
     requires { Ranges s × Room s.cycle (lent output first second) }
     ensures { called result (lent output.exit first.exit second.exit)
-        ≡ byDecision s (decisionFor s) (lent output.entry first.entry second.entry) }
+        ≡ by_decision s (decision_for s) (lent output.entry first.entry second.entry) }
 {
     let decision = decide(s);
     let outcome = decision.outcome;

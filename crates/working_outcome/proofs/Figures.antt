@@ -7,37 +7,37 @@ use lib.Ieee.{Float}
 use lib.ListN.{length, take, drop}
 use Rattle.lists.specs.Lists.{sum}
 use Rattle.segment.specs.declared.Segment.{Segment}
-use Rattle.dispersion.specs.Dispersion.{arrivalTimeOf}
-use Rattle.arrivals.specs.Laws.{run-of, runs-length}
+use Rattle.dispersion.specs.Dispersion.{arrival_time_of}
+use Rattle.arrivals.specs.Laws.{run_of_lem, runs_length}
 use Rattle.exit_figures.specs.declared.ExitFigures.{ExitFigures}
-use Rattle.exit_figures.specs.ExitFigures.{figuresOf, blockedSteps}
+use Rattle.exit_figures.specs.ExitFigures.{figures_of, blocked_steps}
 use Rattle.balance_decision.specs.declared.Outcome.TheVariants.{Worked}
 use Rattle.pair_flows.specs.declared.PairFlows.{PairFlows}
-use Rattle.propagation.specs.Propagation.{flowAt}
+use Rattle.propagation.specs.Propagation.{flow_at}
 use Rattle.working_outcome.specs.declared.Working.{Working}
-use Rattle.working_outcome.specs.Answer.{run_of, workedOf}
+use Rattle.working_outcome.specs.Answer.{run_of, worked_of}
 use Rattle.working_outcome.specs.Filled.{Filled}
 
 module _ {s : Segment} {rows : List (List ℕ)} {output : List ℕ} (f : Filled s rows output) where
-  pub output-long : 4 * s.cycle ≤ length output
-  output-long = rw f.is (omega (arith, runs-length s.cycle (flowAt s rows) f.rest))
+  pub output_long : 4 * s.cycle ≤ length output
+  output_long = rw f.is (omega (arith, runs_length s.cycle (flow_at s rows) f.rest))
 
   -- exit j's run, as it is lent: from a to b
   pub run_is : (j a b : ℕ) → j < 4 → a ≡ j * s.cycle → b - a ≡ s.cycle → take (b - a) (drop a output) ≡ run_of s rows j
   unfolding run_of
-  run_is j a b h ea eb = rw (eb, ea, f.is) (run-of s.cycle (flowAt s rows) f.rest j h)
+  run_is j a b h ea eb = rw (eb, ea, f.is) (run_of_lem s.cycle (flow_at s rows) f.rest j h)
 
 -- the answer from its fields, each run as it is lent
-pub worked-is : {s : Segment} {p : PairFlows} {output : List ℕ} → Filled s p.rows output → (x : Float) (n : ℕ) {a : ℕ} {l t r : ExitFigures} {d b : ℕ} →
+pub worked_is : {s : Segment} {p : PairFlows} {output : List ℕ} → Filled s p.rows output → (x : Float) (n : ℕ) {a : ℕ} {l t r : ExitFigures} {d b : ℕ} →
     let c = s.cycle in
     let through = take (c + c - c) (drop c output) in
-    a ≡ arrivalTimeOf s.running → l ≡ figuresOf s.downstream.left (take (c - 0) output) → t ≡ figuresOf s.downstream.through through →
-    r ≡ figuresOf s.downstream.right (take (c + c + c - (c + c)) (drop (c + c) output)) →
-    d ≡ sum (take (c + c + c + c - (c + c + c)) (drop (c + c + c) output)) → b ≡ blockedSteps s.headway through →
+    a ≡ arrival_time_of s.running → l ≡ figures_of s.downstream.left (take (c - 0) output) → t ≡ figures_of s.downstream.through through →
+    r ≡ figures_of s.downstream.right (take (c + c + c - (c + c)) (drop (c + c) output)) →
+    d ≡ sum (take (c + c + c + c - (c + c + c)) (drop (c + c + c) output)) → b ≡ blocked_steps s.headway through →
     ◌≡◌ {A = Working} (record { outcome = Worked x; arrival = a; rounds = n; pairs = p; left = l; through = t; right = r; access = d; blocked = b })
-    (workedOf s x n p)
-unfolding workedOf
-worked-is {s} f x n ea el et er ed eb =
+    (worked_of s x n p)
+unfolding worked_of
+worked_is {s} f x n ea el et er ed eb =
     let c = s.cycle in
     let run0 = run_is f 0 0 c (omega arith) (omega arith) (omega arith) in
     let run1 = run_is f 1 c (c + c) (omega arith) (omega arith) (omega arith) in

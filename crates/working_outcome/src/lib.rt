@@ -1,6 +1,6 @@
 // What the working of a segment record answers: its figures, read from a filled output, or a refusal.
 ghost use Rattle.std.specs.Prelude.{◌≡◌};
-ghost use Rattle.working_outcome.specs.Answer.{refusedWith, workedOf};
+ghost use Rattle.working_outcome.specs.Answer.{refused_with, worked_of};
 ghost use Rattle.working_outcome.specs.Filled.{Filled};
 
 use balance_decision::Outcome;
@@ -25,7 +25,7 @@ pub struct Working {
 
 // A refusal: its outcome, and 0 for every figure.
 pub fn refused(outcome: Outcome) -> Working
-    ensures { result ≡ refusedWith outcome }
+    ensures { result ≡ refused_with outcome }
 {
     let none = ExitFigures {
         total: 0,
@@ -48,7 +48,7 @@ pub fn refused(outcome: Outcome) -> Working
 // The figures of a filled output.
 pub fn worked(s: Segment, sum: f64, rounds: u32, pairs: PairFlows, output: &[u32]) -> Working
     requires { Filled s pairs.rows output.now }
-    ensures { result ≡ workedOf s sum rounds pairs }
+    ensures { result ≡ worked_of s sum rounds pairs }
 {
     let one = s.cycle as usize;
     let two = one + one;

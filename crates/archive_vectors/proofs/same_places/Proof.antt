@@ -4,15 +4,15 @@ use borrow.Author.Rules.{rules}
 use Rattle.archive_vectors.proofs.same_places.Statement.{statement}
 use Rattle.archive_vectors.proofs.same_places.Tie as tie
 
-abbrev invariant-loop : tie.invariant-loop
-invariant-loop s archive at number count same₀ i₀ same i = i ≤ count
+abbrev invariant_loop : tie.invariant-loop
+invariant_loop s archive at number count same₀ i₀ same i = i ≤ count
 
-abbrev decreases-loop : tie.decreases-loop
-decreases-loop s archive at number count same₀ i₀ same i = count - i
+abbrev decreases_loop : tie.decreases-loop
+decreases_loop s archive at number count same₀ i₀ same i = count - i
 
-pub same-places-spec : {M : Type 1} → statement M
-same-places-spec =
+pub same_places_spec : {M : Type 1} → statement M
+same_places_spec =
     tie.close
-    (tie.spec invariant-loop decreases-loop (λ c. search rules) (λ c κs. search rules) (λ c. search rules) (λ c. search rules) (λ c κs. search rules)
+    (tie.spec invariant_loop decreases_loop (λ c. search rules) (λ c κs. search rules) (λ c. search rules) (λ c. search rules) (λ c κs. search rules)
     (λ c κs. search rules) (λ c. search rules) (λ c. search rules) (λ c. search rules) (λ c κs. search rules) (λ c κs. search rules)
     (λ c. search rules))

@@ -15,5 +15,5 @@ returns c =
       volumes.before.before.discharge-floats.ensures,
     )
 
-pub balanced-spec : {M : Type 1} → statement M
-balanced-spec = tie.close (tie.spec (λ c κs. tt) (λ c κs. tt) (λ c κs. tt) (λ c κs. tt) (λ c κs. tt) returns)
+pub balanced_spec : {M : Type 1} → statement M
+balanced_spec = tie.close (tie.spec (λ c κs. tt) (λ c κs. tt) (λ c κs. tt) (λ c κs. tt) (λ c κs. tt) returns)

@@ -6,5 +6,5 @@ use Rattle.balance.proofs.unsettled.Tie as tie
 returns : tie.Need-returns
 returns c = rw c.no-flows.ensures
 
-pub unsettled-spec : {M : Type 1} → statement M
-unsettled-spec = tie.close (tie.spec (λ c κs. search rules) returns)
+pub unsettled_spec : {M : Type 1} → statement M
+unsettled_spec = tie.close (tie.spec (λ c κs. search rules) returns)

@@ -3,6 +3,6 @@ use borrow.Author.Rules.{rules}
 use Rattle.balance_decision.proofs.last_sum_of.Statement.{statement}
 use Rattle.balance_decision.proofs.last_sum_of.Tie as tie
 
-pub last-sum-of-spec : {M : Type 1} → statement M
-last-sum-of-spec =
+pub last_sum_of_spec : {M : Type 1} → statement M
+last_sum_of_spec =
     tie.close (tie.spec (λ c. search rules) (λ c. search rules) (λ c. search rules) (λ c. search rules) (λ c. search rules) (λ c. search rules))

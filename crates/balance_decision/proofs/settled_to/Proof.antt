@@ -1,7 +1,7 @@
 -- Settled: the pair flows of its cells; unsettled: 15 with its last sum.
 use mathlib.Core.Path.{ap, ◌∙◌}
-use Rattle.pair_flows.specs.Pairs.{pairFlows}
-use Rattle.balance_decision.proofs.Answers.{settled_is, unsettled-is}
+use Rattle.pair_flows.specs.Pairs.{pair_flows}
+use Rattle.balance_decision.proofs.Answers.{settled_is, unsettled_is}
 use borrow.Author.Rules.{rules}
 use Rattle.balance_decision.proofs.settled_to.Statement.{statement}
 use Rattle.balance_decision.proofs.settled_to.Tie as tie
@@ -11,16 +11,16 @@ returns c =
     let at-settling = c.before.before.before in
     let a = at-settling.before.before.args in
     let k = at-settling.settling.given in
-    settled_is a.o a.b k.0.0 c.from-rows.result k.1 (c.from-rows.ensures ∙ ap pairFlows c.before.pair-rows.ensures)
+    settled_is a.o a.b k.0.0 c.from-rows.result k.1 (c.from-rows.ensures ∙ ap pair_flows c.before.pair-rows.ensures)
 
-returns-2 : tie.Need-returns-2
-returns-2 c =
+returns_2 : tie.Need-returns-2
+returns_2 c =
     let a = c.before.before.before.before.args in
     let k = c.before.before.settling2.given in
-    c.undecided.ensures ∙ unsettled-is a.o a.b k.0.0 k.1
+    c.undecided.ensures ∙ unsettled_is a.o a.b k.0.0 k.1
 
-pub settled-to-spec : {M : Type 1} → statement M
-settled-to-spec =
+pub settled_to_spec : {M : Type 1} → statement M
+settled_to_spec =
     tie.close
     (tie.spec
     (λ c. search rules)
@@ -29,4 +29,4 @@ settled-to-spec =
     (λ c. search rules)
     (λ c κs. tt)
     returns
-    returns-2)
+    returns_2)

@@ -5,5 +5,5 @@ use Rattle.balance_decision.proofs.undecided.Tie as tie
 returns : tie.Need-returns
 returns c = rw c.from-rows.ensures
 
-pub undecided-spec : {M : Type 1} → statement M
-undecided-spec = tie.close (tie.spec (λ c κs. tt) returns)
+pub undecided_spec : {M : Type 1} → statement M
+undecided_spec = tie.close (tie.spec (λ c κs. tt) returns)

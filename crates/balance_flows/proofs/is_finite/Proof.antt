@@ -17,5 +17,5 @@ returns : tie.Need-returns
 unfolding of_bits div neg
 returns c = between c.args.x
 
-pub is-finite-spec : {M : Type 1} → statement M
-is-finite-spec = tie.close (tie.spec returns)
+pub is_finite_spec : {M : Type 1} → statement M
+is_finite_spec = tie.close (tie.spec returns)

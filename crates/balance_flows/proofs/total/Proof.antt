@@ -3,5 +3,5 @@ use mathlib.Core.Path.{refl}
 use Rattle.balance_flows.proofs.total.Statement.{statement}
 use Rattle.balance_flows.proofs.total.Tie as tie
 
-pub total-spec : {M : Type 1} → statement M
-total-spec = tie.close (tie.spec (λ c. refl))
+pub total_spec : {M : Type 1} → statement M
+total_spec = tie.close (tie.spec (λ c. refl))

@@ -6,5 +6,5 @@ use Rattle.balance_pairs.proofs.pair_row.Tie as tie
 returns : tie.Need-returns
 returns c = rw (c.cell-units3.ensures.0, c.before.cell-units2.ensures.0, c.before.before.cell-units.ensures.0)
 
-pub pair-row-spec : {M : Type 1} → statement M
-pair-row-spec = tie.close (tie.spec (λ c κs. tt) (λ c. search rules) (λ c κs. tt) (λ c. search rules) (λ c κs. tt) (λ c. search rules) returns)
+pub pair_row_spec : {M : Type 1} → statement M
+pair_row_spec = tie.close (tie.spec (λ c κs. tt) (λ c. search rules) (λ c κs. tt) (λ c. search rules) (λ c κs. tt) (λ c. search rules) returns)

@@ -1,11 +1,11 @@
 -- The four rows, each of its entry's flow units.
-use Rattle.balance_pairs.specs.Pairs.{pairRows}
+use Rattle.balance_pairs.specs.Pairs.{pair_rows}
 use Rattle.std.proofs.Common.{rules}
 use Rattle.balance_pairs.proofs.pair_rows.Statement.{statement}
 use Rattle.balance_pairs.proofs.pair_rows.Tie as tie
 
 returns : tie.Need-returns
-unfolding pairRows
+unfolding pair_rows
 returns c =
     let third = c.before.before in
     let second = third.before.before in
@@ -21,8 +21,8 @@ returns c =
       first.before.flow-units.ensures,
     )
 
-pub pair-rows-spec : {M : Type 1} → statement M
-pair-rows-spec =
+pub pair_rows_spec : {M : Type 1} → statement M
+pair_rows_spec =
     tie.close
     (tie.spec (λ c κs. search rules) (λ c κs. tt) (λ c. search rules) (λ c κs. search rules) (λ c κs. tt) (λ c. search rules) (λ c κs. search rules)
     (λ c κs. tt) (λ c. search rules) (λ c κs. search rules) (λ c κs. tt) (λ c. search rules) returns)

@@ -8,5 +8,5 @@ returns : tie.Need-returns
 unfolding meets
 returns c = refl
 
-pub meets-spec : {M : Type 1} → statement M
-meets-spec = tie.close (tie.spec returns)
+pub meets_spec : {M : Type 1} → statement M
+meets_spec = tie.close (tie.spec returns)

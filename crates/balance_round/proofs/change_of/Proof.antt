@@ -9,5 +9,5 @@ returns c =
     let earlier = c.before.before in
     rw (c.difference4.ensures, c.before.difference3.ensures, earlier.difference2.ensures, earlier.before.difference.ensures)
 
-pub change-of-spec : {M : Type 1} → statement M
-change-of-spec = tie.close (tie.spec (λ c κs. tt) (λ c κs. tt) (λ c κs. tt) (λ c κs. tt) returns)
+pub change_of_spec : {M : Type 1} → statement M
+change_of_spec = tie.close (tie.spec (λ c κs. tt) (λ c κs. tt) (λ c κs. tt) (λ c κs. tt) returns)

@@ -3,5 +3,5 @@ use mathlib.Core.Path.{refl}
 use Rattle.balance_round.proofs.destination.Statement.{statement}
 use Rattle.balance_round.proofs.destination.Tie as tie
 
-pub destination-spec : {M : Type 1} → statement M
-destination-spec = tie.close (tie.spec (λ c. refl))
+pub destination_spec : {M : Type 1} → statement M
+destination_spec = tie.close (tie.spec (λ c. refl))

@@ -9,5 +9,5 @@ returns c =
     let earlier = c.before.before in
     rw (c.destination4.ensures, c.before.destination3.ensures, earlier.destination2.ensures, earlier.before.destination.ensures)
 
-pub destinations-of-spec : {M : Type 1} → statement M
-destinations-of-spec = tie.close (tie.spec (λ c κs. tt) (λ c κs. tt) (λ c κs. tt) (λ c κs. tt) returns)
+pub destinations_of_spec : {M : Type 1} → statement M
+destinations_of_spec = tie.close (tie.spec (λ c κs. tt) (λ c κs. tt) (λ c κs. tt) (λ c κs. tt) returns)

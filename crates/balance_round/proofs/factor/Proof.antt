@@ -3,5 +3,5 @@ use mathlib.Core.Path.{refl}
 use Rattle.balance_round.proofs.factor.Statement.{statement}
 use Rattle.balance_round.proofs.factor.Tie as tie
 
-pub factor-spec : {M : Type 1} → statement M
-factor-spec = tie.close (tie.spec (λ c. refl))
+pub factor_spec : {M : Type 1} → statement M
+factor_spec = tie.close (tie.spec (λ c. refl))

@@ -18,5 +18,5 @@ returns c =
       undivided.before.any-no-quotient.ensures,
     )
 
-pub stops-spec : {M : Type 1} → statement M
-stops-spec = tie.close (tie.spec (λ c κs. tt) (λ c κs. tt) (λ c κs. tt) (λ c κs. tt) (λ c κs. tt) (λ c κs. tt) (λ c κs. tt) returns)
+pub stops_spec : {M : Type 1} → statement M
+stops_spec = tie.close (tie.spec (λ c κs. tt) (λ c κs. tt) (λ c κs. tt) (λ c κs. tt) (λ c κs. tt) (λ c κs. tt) (λ c κs. tt) returns)

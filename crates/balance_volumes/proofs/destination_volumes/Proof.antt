@@ -1,10 +1,10 @@
 -- The four volumes, over the two totals.
-use Rattle.balance_volumes.specs.Volumes.{destinationVolumes}
+use Rattle.balance_volumes.specs.Volumes.{destination_volumes}
 use Rattle.balance_volumes.proofs.destination_volumes.Statement.{statement}
 use Rattle.balance_volumes.proofs.destination_volumes.Tie as tie
 
 returns : tie.Need-returns
-unfolding destinationVolumes
+unfolding destination_volumes
 returns c =
     let second = c.before.before in
     let totals = second.before.before in
@@ -17,5 +17,5 @@ returns c =
       totals.before.total.ensures,
     )
 
-pub destination-volumes-spec : {M : Type 1} → statement M
-destination-volumes-spec = tie.close (tie.spec (λ c κs. tt) (λ c κs. tt) (λ c κs. tt) (λ c κs. tt) (λ c κs. tt) (λ c κs. tt) returns)
+pub destination_volumes_spec : {M : Type 1} → statement M
+destination_volumes_spec = tie.close (tie.spec (λ c κs. tt) (λ c κs. tt) (λ c κs. tt) (λ c κs. tt) (λ c κs. tt) (λ c κs. tt) returns)

@@ -4,5 +4,5 @@ use borrow.Author.Rules.{rules}
 use Rattle.balance_volumes.proofs.proportion.Statement.{statement}
 use Rattle.balance_volumes.proofs.proportion.Tie as tie
 
-pub proportion-spec : {M : Type 1} → statement M
-proportion-spec = tie.close (tie.spec (λ c. search rules) (λ c. refl))
+pub proportion_spec : {M : Type 1} → statement M
+proportion_spec = tie.close (tie.spec (λ c. search rules) (λ c. refl))

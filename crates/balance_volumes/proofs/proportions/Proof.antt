@@ -9,5 +9,5 @@ returns c =
     let earlier = c.before.before in
     rw (c.proportion-row4.ensures, c.before.proportion-row3.ensures, earlier.proportion-row2.ensures, earlier.before.proportion-row.ensures)
 
-pub proportions-spec : {M : Type 1} → statement M
-proportions-spec = tie.close (tie.spec (λ c κs. tt) (λ c κs. tt) (λ c κs. tt) (λ c κs. tt) returns)
+pub proportions_spec : {M : Type 1} → statement M
+proportions_spec = tie.close (tie.spec (λ c κs. tt) (λ c κs. tt) (λ c κs. tt) (λ c κs. tt) returns)

@@ -14,8 +14,8 @@ returns c =
     let short : start.args.room < 3 * at-valid.checked2.given.0.0.cycle = omega (arith, c.if1.true) in
     search ladder depth 30
 
-pub accept-spec : {M : Type 1} → statement M
-accept-spec =
+pub accept_spec : {M : Type 1} → statement M
+accept_spec =
     tie.close
     (tie.spec (λ c κs. search rules) (λ c. search rules) (λ c. search rules) (λ c. search rules) (λ c. search rules) returns
     (λ c. search ladder depth 30) (λ c. search ladder depth 30))

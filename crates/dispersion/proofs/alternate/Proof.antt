@@ -2,58 +2,58 @@
 use Prim.Native.Nat.{◌-◌}
 use native.Mathlib.Omega.{arith}
 use borrow.Author.Rules.{rules}
-use Rattle.dispersion.proofs.Alternating.{Alternating, alternate-start, turn-needed, turn, alternate-done}
+use Rattle.dispersion.proofs.Alternating.{Alternating, alternate_start, turn_needed, turn, alternate_done}
 use Rattle.dispersion.proofs.alternate.Statement.{statement}
 use Rattle.dispersion.proofs.alternate.Tie as tie
 
-abbrev invariant-loop : tie.invariant-loop
-invariant-loop running discharge first₀ second₀ cycles state₀ needed₀ k₀ first second state needed k =
+abbrev invariant_loop : tie.invariant-loop
+invariant_loop running discharge first₀ second₀ cycles state₀ needed₀ k₀ first second state needed k =
     Alternating running discharge cycles first₀ second₀ first second state needed k
 
-abbrev decreases-loop : tie.decreases-loop
-decreases-loop running discharge first₀ second₀ cycles state₀ needed₀ k₀ first second state needed k = needed - k
+abbrev decreases_loop : tie.decreases-loop
+decreases_loop running discharge first₀ second₀ cycles state₀ needed₀ k₀ first second state needed k = needed - k
 
 -- ---- from the calls of a turn back to its start
 
-abbrev cycle-of : tie.After-cycles-needed invariant-loop decreases-loop → tie.After-work-cycle invariant-loop decreases-loop
-cycle-of c = let added = c.before.before in added.before.before.before
+abbrev cycle_of : tie.After-cycles-needed invariant_loop decreases_loop → tie.After-work-cycle invariant_loop decreases_loop
+cycle_of c = let added = c.before.before in added.before.before.before
 
-abbrev test_of : tie.After-work-cycle invariant-loop decreases-loop → tie.In-loop invariant-loop decreases-loop
+abbrev test_of : tie.After-work-cycle invariant_loop decreases_loop → tie.In-loop invariant_loop decreases_loop
 test_of c = c.before.before.before
 
 -- ---- the needs
 
-loop-holds : tie.Need-loop-init invariant-loop decreases-loop
-loop-holds c = alternate-start _ _ _ _ _
+loop_holds : tie.Need-loop-init invariant_loop decreases_loop
+loop_holds c = alternate_start _ _ _ _ _
 
-work-cycle-requires : tie.Need-work-cycle-requires invariant-loop decreases-loop
-work-cycle-requires c κs = (search rules, (search rules, (omega arith, omega arith)))
+work_cycle_requires : tie.Need-work-cycle-requires invariant_loop decreases_loop
+work_cycle_requires c κs = (search rules, (search rules, (omega arith, omega arith)))
 
-loop-less : tie.Need-loop-smaller invariant-loop decreases-loop
-loop-less c =
-    let w = cycle-of c in
+loop_less : tie.Need-loop-smaller invariant_loop decreases_loop
+loop_less c =
+    let w = cycle_of c in
     let l = test_of w in
-    let fewer = turn-needed l.before.loop.inv l.loop-test.taken _ _ _ _ w.work-cycle.ensures c.cycles-needed.ensures in
+    let fewer = turn_needed l.before.loop.inv l.loop-test.taken _ _ _ _ w.work-cycle.ensures c.cycles-needed.ensures in
     omega (arith, fewer.some, fewer.fewer)
 
-loop-again : tie.Need-loop-preserved invariant-loop decreases-loop
-loop-again c =
-    let w = cycle-of c in
+loop_again : tie.Need-loop-preserved invariant_loop decreases_loop
+loop_again c =
+    let w = cycle_of c in
     let l = test_of w in
     turn l.before.loop.inv l.loop-test.taken _ _ _ _ w.work-cycle.ensures c.cycles-needed.ensures
     w.work-cycle.kept.1.1.0 w.work-cycle.kept.1.1.1.0
 
-same_length : tie.Need-same-length invariant-loop decreases-loop
-same_length c = c.before.loop.invariant.long-first
+same_length : tie.Need-same-length invariant_loop decreases_loop
+same_length c = c.before.loop.invariant.long_first
 
-same-length-2 : tie.Need-same-length-2 invariant-loop decreases-loop
-same-length-2 c = c.before.loop.invariant.long-second
+same_length_2 : tie.Need-same-length-2 invariant_loop decreases_loop
+same_length_2 c = c.before.loop.invariant.long_second
 
-returns : tie.Need-returns invariant-loop decreases-loop
-returns c = alternate-done c.before.loop.invariant c.loop-test.false
+returns : tie.Need-returns invariant_loop decreases_loop
+returns c = alternate_done c.before.loop.invariant c.loop-test.false
 
-pub alternate-spec : {M : Type 1} → statement M
-alternate-spec =
+pub alternate_spec : {M : Type 1} → statement M
+alternate_spec =
     tie.close
-    (tie.spec invariant-loop decreases-loop loop-holds work-cycle-requires (λ c. omega arith) (λ c κs. search rules) loop-less loop-again same_length
-    same-length-2 returns)
+    (tie.spec invariant_loop decreases_loop loop_holds work_cycle_requires (λ c. omega arith) (λ c κs. search rules) loop_less loop_again same_length
+    same_length_2 returns)

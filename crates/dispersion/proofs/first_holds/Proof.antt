@@ -3,5 +3,5 @@ use borrow.Author.Rules.{rules}
 use Rattle.dispersion.proofs.first_holds.Statement.{statement}
 use Rattle.dispersion.proofs.first_holds.Tie as tie
 
-pub first-holds-spec : {M : Type 1} → statement M
-first-holds-spec = tie.close (tie.spec (λ c. search rules))
+pub first_holds_spec : {M : Type 1} → statement M
+first_holds_spec = tie.close (tie.spec (λ c. search rules))

@@ -9,11 +9,11 @@ returns c =
     let d = c.before.before in
     rw (d.disperse.ensures.0, d.disperse.ensures.1, eq-eqb _ _ d.before.before.if1.true)
 
-returns-2 : tie.Need-returns-2
-returns-2 c =
+returns_2 : tie.Need-returns-2
+returns_2 c =
     let d = c.before.before in
     rw (d.disperse2.ensures.0, d.disperse2.ensures.1, ne_eqb _ _ d.before.before.if1.false)
 
-pub work-cycle-spec : {M : Type 1} → statement M
-work-cycle-spec =
-    tie.close (tie.spec (λ c κs. search rules) (λ c. search rules) returns (λ c κs. search rules) (λ c. search rules) returns-2)
+pub work_cycle_spec : {M : Type 1} → statement M
+work_cycle_spec =
+    tie.close (tie.spec (λ c κs. search rules) (λ c. search rules) returns (λ c κs. search rules) (λ c. search rules) returns_2)

@@ -5,11 +5,11 @@ use borrow.Author.Rules.{rules}
 use Rattle.exam_sheet.proofs.main.Statement.{statement}
 use Rattle.exam_sheet.proofs.main.Tie as tie
 
-slice-aggregate-print : tie.Need-slice-aggregate-print
-slice-aggregate-print c = sym (length-take-le _ _ c.before.before.read-input.ensures)
+slice_aggregate_print : tie.Need-slice-aggregate-print
+slice_aggregate_print c = sym (length-take-le _ _ c.before.before.read-input.ensures)
 
 pub main_spec : {M : Type 1} → statement M
 main_spec =
     tie.close
-    (tie.spec (λ c. search rules) (λ c κs. search rules) (λ c. search rules) slice-aggregate-print (λ c κs. search rules)
+    (tie.spec (λ c. search rules) (λ c κs. search rules) (λ c. search rules) slice_aggregate_print (λ c κs. search rules)
     (λ c. search rules))

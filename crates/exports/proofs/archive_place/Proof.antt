@@ -1,12 +1,12 @@
 -- The call's answer in numbers.
 use mathlib.Core.Path.{ap, ◌∙◌}
-use Rattle.exports.specs.Exports.{valueAnswer}
+use Rattle.exports.specs.Exports.{value_answer}
 use borrow.Author.Rules.{rules}
 use Rattle.exports.proofs.archive_place.Statement.{statement}
 use Rattle.exports.proofs.archive_place.Tie as tie
 
 returns : tie.Need-returns
-returns c = c.value-answer.ensures ∙ ap valueAnswer c.before.place.ensures
+returns c = c.value-answer.ensures ∙ ap value_answer c.before.place.ensures
 
-pub archive-place-spec : {M : Type 1} → statement M
-archive-place-spec = tie.close (tie.spec (λ c κs. search rules) (λ c κs. search rules) returns)
+pub archive_place_spec : {M : Type 1} → statement M
+archive_place_spec = tie.close (tie.spec (λ c κs. search rules) (λ c κs. search rules) returns)

@@ -1,11 +1,11 @@
 -- `archive_report`: the call's answer in numbers, and the buffer as the call left it.
 use borrow.Author.Rules.{rules}
-use Rattle.exports.specs.Laws.{archive-writes}
+use Rattle.exports.specs.Laws.{archive_writes}
 use Rattle.exports.proofs.archive_report.Statement.{statement}
 use Rattle.exports.proofs.archive_report.Tie as tie
 
 returns : tie.Need-returns
-returns c = archive-writes c.before.before.before.report.ensures c.value-answer.ensures
+returns c = archive_writes c.before.before.before.report.ensures c.value-answer.ensures
 
-pub archive-report-spec : {M : Type 1} → statement M
-archive-report-spec = tie.close (tie.spec (λ c κs. search rules) (λ c κs. search rules) (λ c. search rules) returns)
+pub archive_report_spec : {M : Type 1} → statement M
+archive_report_spec = tie.close (tie.spec (λ c κs. search rules) (λ c κs. search rules) (λ c. search rules) returns)

@@ -8,11 +8,11 @@ use borrow.Author.Rules.{rules}
 use Rattle.exports.proofs.point_work_answer.Statement.{statement}
 use Rattle.exports.proofs.point_work_answer.Tie as tie
 
-abbrev with-counts : List ℕ → WorkAnswer → PointWorkAnswer
-with-counts counts a = record { work = a; blocked = counts }
+abbrev with_counts : List ℕ → WorkAnswer → PointWorkAnswer
+with_counts counts a = record { work = a; blocked = counts }
 
 returns : tie.Need-returns
-returns c = ap (with-counts _) c.work-answer.ensures
+returns c = ap (with_counts _) c.work-answer.ensures
 
-pub point-work-answer-spec : {M : Type 1} → statement M
-point-work-answer-spec = tie.close (tie.spec (λ c κs. search rules) returns)
+pub point_work_answer_spec : {M : Type 1} → statement M
+point_work_answer_spec = tie.close (tie.spec (λ c κs. search rules) returns)

@@ -6,5 +6,5 @@ use Rattle.exports.proofs.work_answer.Tie as tie
 returns : tie.Need-returns
 returns c = cc
 
-pub work-answer-spec : {M : Type 1} → statement M
-work-answer-spec = tie.close (tie.spec (λ c κs. search rules) (λ c κs. search rules) returns)
+pub work_answer_spec : {M : Type 1} → statement M
+work_answer_spec = tie.close (tie.spec (λ c κs. search rules) (λ c κs. search rules) returns)

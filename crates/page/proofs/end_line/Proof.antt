@@ -11,7 +11,7 @@ returns c =
     let at-blanks = text-back.before in
     rw (← at-blanks.before.lacking.ensures) (at-blanks.append-blanks.ensures then at-newline.put.ensures)
 
-pub end-line-spec : {M : Type 1} → statement M
-end-line-spec =
+pub end_line_spec : {M : Type 1} → statement M
+end_line_spec =
     tie.close
     (tie.spec (λ c. search rules) (λ c κs. search rules) (λ c κs. search rules) (λ c. search rules) (λ c κs. search rules) (λ c. search rules) returns)

@@ -8,7 +8,7 @@ returns c =
     let at-lines = c.before.before in
     rw (← at-lines.before.lacking.ensures) at-lines.blank-lines.ensures
 
-pub end-page-spec : {M : Type 1} → statement M
-end-page-spec =
+pub end_page_spec : {M : Type 1} → statement M
+end_page_spec =
     tie.close
     (tie.spec (λ c κs. search rules) (λ c κs. search rules) (λ c. search rules) returns)

@@ -35,7 +35,7 @@ use Rattle.pair_flows.specs.declared.PairFlows.{PairFlows}
 use Rattle.pair_flows.specs.contracts.PairFlows as T
 use Rattle.pair_flows.proofs.PairFlows.TheLaws as T'
 use Rattle.pair_flows.specs.contracts.rows_of.Key.{name as #pair_flows·rows_of}
-use Rattle.pair_flows.proofs.Rows.{Rows, rowsVal, same, rows-lawful}
+use Rattle.pair_flows.proofs.Rows.{Rows, rows_val, same, rows_lawful}
 use Rattle.pair_flows.specs.contracts.rows_of as rowsFn
 use Rattle.pair_flows.proofs.rows_of.Statement as stated
 use Rattle.pair_flows.proofs.rows_of.Code as code
@@ -49,7 +49,7 @@ module _ {M : Type 1} {𝓤 : Ura M} (𝓛 : Logic 𝓤) (mem : Memory → SProp
   open 𝓛 use {H}
 
   abbrev val : Val
-  val = rowsVal (map (λ r. map (λ v. v) r) h.rows)
+  val = rows_val (map (λ r. map (λ v. v) r) h.rows)
 
   abbrev mach : Val
   mach = vstruct (vcons val vnil)
@@ -75,29 +75,29 @@ module _ {M : Type 1} {𝓤 : Ura M} (𝓛 : Logic 𝓤) (mem : Memory → SProp
         qed 𝓛 (‵ ftrue ∷ ‵ (owns (T.the_row ∷ []) (h, tt) (mach ∷ [], tt)) ∷ []) ∵ enter ! C Λ code.function (mach ∷ []) _ $
         alloc1 ! (λ l₀. alloc1 ! (λ l₁. alloc0 ! $ params1 ! $ pass1 ! (init ! 0 refl wt) $ pass0 ! $
         assigns ! (of_opd ! (load ! (from ! (fld ! refl (stop !))) (look_in ! 0 (sub ! 0 refl (whole !))))) (from ! (stop !))
-        (init ! 2 refl ((rows-lawful 𝓛).typed h.rows _ is).0) $
+        (init ! 2 refl ((rows_lawful 𝓛).typed h.rows _ is).0) $
         returns ! (look ! 2 refl) $ forget ! 0 refl $ forget ! 2 refl $ move ! (2 ∷ 3 ∷ []) $ free1 ! $ free1 ! $ free0 !
         $ keep ! (1 ∷ []) $ fsplit ! $ keep ! (0 ∷ []) $ by ! (exits is)))
 
 module _ {M : Type 1} {𝓤 : Ura M} (𝓛 : Logic 𝓤) (mem : Memory → SProp 𝓤) (run : Routine → Fun 𝓤) where
   open 𝓛 use {H}
 
-  rows-of-walks : (C : Calls 𝓤 H) (Λ : Loops 𝓤 H) → Walks 𝓛 rowsFn.ended stayed (WpFn 𝓤 H C Λ code.function) (rowsFn.clauses 𝓛 mem run)
-  rows-of-walks C Λ =
+  rows_of_walks : (C : Calls 𝓤 H) (Λ : Loops 𝓤 H) → Walks 𝓛 rowsFn.ended stayed (WpFn 𝓤 H C Λ code.function) (rowsFn.clauses 𝓛 mem run)
+  rows_of_walks C Λ =
       walked 𝓛 rowsFn.ended stayed (rowsFn.clauses 𝓛 mem run) (WpFn 𝓤 H C Λ code.function)
       (λ κs. (LL.vals T.the_type T'.the_laws, tt)) (λ κs. (LL.tells T.the_type T'.the_laws, tt))
       (λ κs qs bounds a g are. via 𝓤 _ (fst∗ 𝓤 _ (emp 𝓤))
       (walk 𝓛 mem run a.0 C Λ are.0 ((LL.lawful T.the_type T'.the_laws 𝓛).typed a.0 _ are.0).0))
 
-rows-of-meets : {M : Type 1} {𝓤 : Ura M} (𝓛 : Logic 𝓤) → (mem : Memory → SProp 𝓤) (run : Routine → Fun 𝓤) (𝓣 : Tables 𝓤 𝓛.H)
+rows_of_meets : {M : Type 1} {𝓤 : Ura M} (𝓛 : Logic 𝓤) → (mem : Memory → SProp 𝓤) (run : Routine → Fun 𝓤) (𝓣 : Tables 𝓤 𝓛.H)
     → Meets 𝓛 rowsFn.signature (WpFn 𝓤 𝓛.H 𝓣.C 𝓣.Λ code.function) (rowsFn.spec 𝓛 mem run)
-rows-of-meets {𝓤 = 𝓤} 𝓛 mem run 𝓣 =
+rows_of_meets {𝓤 = 𝓤} 𝓛 mem run 𝓣 =
     walk_Meets 𝓛 rowsFn.ended stayed (Goes-none 𝓛 0 (λ _. T.the_row) yes (λ κs x f. refl), tt) (rowsFn.clauses 𝓛 mem run)
-    (WpFn 𝓤 𝓛.H 𝓣.C 𝓣.Λ code.function) (WpFn-mono 𝓤 𝓛.H 𝓛.laws 𝓣 code.function) (rows-of-walks 𝓛 mem run 𝓣.C 𝓣.Λ)
+    (WpFn 𝓤 𝓛.H 𝓣.C 𝓣.Λ code.function) (WpFn-mono 𝓤 𝓛.H 𝓛.laws 𝓣 code.function) (rows_of_walks 𝓛 mem run 𝓣.C 𝓣.Λ)
 
-pub rows-of-spec : {M : Type 1} → stated.statement M
+pub rows_of_spec : {M : Type 1} → stated.statement M
 unfolding code.routine tables_of
-rows-of-spec 𝓤 𝓛 𝓜 𝓡 =
+rows_of_spec 𝓤 𝓛 𝓜 𝓡 =
     entered 𝓤 𝓛.H (triple_of 𝓛 rowsFn.signature (rowsFn.spec 𝓛 𝓜.mem 𝓡.run))
     (tables 𝓤 𝓛.H 𝓜 𝓡 code.env).C (tables 𝓤 𝓛.H 𝓜 𝓡 code.env).Λ #pair_flows·rows_of code.function (code.unfolded 𝓤 𝓛.H 𝓜 𝓡)
-    (rows-of-meets 𝓛 𝓜.mem 𝓡.run (tables_of 𝓤 𝓛.H 𝓜 (tables 𝓤 𝓛.H 𝓜 𝓡 code.env)))
+    (rows_of_meets 𝓛 𝓜.mem 𝓡.run (tables_of 𝓤 𝓛.H 𝓜 (tables 𝓤 𝓛.H 𝓜 𝓡 code.env)))

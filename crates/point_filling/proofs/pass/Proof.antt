@@ -1,5 +1,5 @@
 -- Dispersed into the front of an array of the longest cycle, then landed whole.
-use Rattle.point_filling.proofs.Passing.{front_long, pass-lands, pass-done}
+use Rattle.point_filling.proofs.Passing.{front_long, pass_lands, pass_done}
 use borrow.Author.Rules.{rules}
 use Rattle.point_filling.proofs.pass.Statement.{statement}
 use Rattle.point_filling.proofs.pass.Tie as tie
@@ -14,19 +14,19 @@ last_of c = let at-time = c.before.before in at-time.before.before.before
 
 -- ---- the needs
 
-part-add-whole-end : tie.Need-slice-bounds-add-whole-end
-part-add-whole-end c = front_long _ _ _ c.before.before.disperse-last.ensures _
+part_add_whole_end : tie.Need-slice-bounds-add-whole-end
+part_add_whole_end c = front_long _ _ _ c.before.before.disperse-last.ensures _
 
-add-whole-requires : tie.Need-add-whole-requires
-add-whole-requires c κs =
+add_whole_requires : tie.Need-add-whole-requires
+add_whole_requires c κs =
     let l = last_of c in
-    pass-lands _ _ _ l.disperse-last.ensures _ c.before.arrival-time.ensures (start l).pre
+    pass_lands _ _ _ l.disperse-last.ensures _ c.before.arrival-time.ensures (start l).pre
 
 returns : tie.Need-returns
 returns c =
     let added = c.before.before in
     let l = last_of added.before in
-    pass-done _ _ _ l.disperse-last.ensures _ added.before.before.arrival-time.ensures (start l).args.run.now added.add-whole.ensures
+    pass_done _ _ _ l.disperse-last.ensures _ added.before.before.arrival-time.ensures (start l).args.run.now added.add-whole.ensures
 
 pub pass_spec : {M : Type 1} → statement M
 pass_spec =
@@ -38,8 +38,8 @@ pass_spec =
     (λ c κs. search rules)
     (λ c. search rules)
     (λ c. search rules)
-    part-add-whole-end
+    part_add_whole_end
     (λ c κs. search rules)
-    add-whole-requires
+    add_whole_requires
     (λ c. search rules)
     returns)

@@ -6,5 +6,5 @@ use Rattle.report_lines.proofs.end_line.Tie as tie
 returns : tie.Need-returns
 returns c = c.before.before.put.ensures
 
-pub end-line-spec : {M : Type 1} → statement M
-end-line-spec = tie.close (tie.spec (λ c. search rules) (λ c κs. search rules) (λ c. search rules) returns)
+pub end_line_spec : {M : Type 1} → statement M
+end_line_spec = tie.close (tie.spec (λ c. search rules) (λ c κs. search rules) (λ c. search rules) returns)

@@ -1,15 +1,15 @@
 -- What the calls wrote, one after another, is the line: its words and its end.
 use borrow.Author.Rules.{rules}
 use Rattle.buffer.specs.Pieces.{◌then◌}
-use Rattle.report_lines.specs.Lines.{recordLine}
+use Rattle.report_lines.specs.Lines.{record_line}
 use Rattle.report_lines.proofs.record_line.Statement.{statement}
 use Rattle.report_lines.proofs.record_line.Tie as tie
 
 returns : tie.Need-returns
-unfolding recordLine
+unfolding record_line
 returns c = search ◌then◌
 
-pub record-line-spec : {M : Type 1} → statement M
-record-line-spec =
+pub record_line_spec : {M : Type 1} → statement M
+record_line_spec =
     tie.close
     (tie.spec (λ c κs. search rules) (λ c κs. search rules) (λ c. search rules) returns)

@@ -1,15 +1,15 @@
 -- What the calls wrote, one after another, is the line: its words and its end.
 use borrow.Author.Rules.{rules}
 use Rattle.buffer.specs.Pieces.{◌then◌}
-use Rattle.report_lines.specs.Lines.{refusedLine}
+use Rattle.report_lines.specs.Lines.{refused_line}
 use Rattle.report_lines.proofs.refused_line.Statement.{statement}
 use Rattle.report_lines.proofs.refused_line.Tie as tie
 
 returns : tie.Need-returns
-unfolding refusedLine
+unfolding refused_line
 returns c = search ◌then◌
 
-pub refused-line-spec : {M : Type 1} → statement M
-refused-line-spec =
+pub refused_line_spec : {M : Type 1} → statement M
+refused_line_spec =
     tie.close
     (tie.spec (λ c κs. search rules) (λ c κs. search rules) (λ c. search rules) returns)

@@ -1,19 +1,19 @@
 -- The words, and the line's end by the places that they took.
 use borrow.Author.Rules.{rules}
 use Rattle.buffer.specs.Pieces.{wrote_on}
-use Rattle.page.specs.Laws.{line-ended}
+use Rattle.page.specs.Laws.{line_ended}
 use Rattle.sheet_page.proofs.exit_line.Statement.{statement}
 use Rattle.sheet_page.proofs.exit_line.Tie as tie
 
-end-line-requires : tie.Need-end-line-requires
-end-line-requires c κs = wrote_on c.before.before.before.exit-words.ensures
+end_line_requires : tie.Need-end-line-requires
+end_line_requires c κs = wrote_on c.before.before.before.exit-words.ensures
 
 returns : tie.Need-returns
 returns c =
     let at-end = c.before.before in
-    line-ended at-end.before.before.before.before.exit-words.ensures at-end.end_line.ensures
+    line_ended at-end.before.before.before.before.exit-words.ensures at-end.end_line.ensures
 
-pub exit-line-spec : {M : Type 1} → statement M
-exit-line-spec =
+pub exit_line_spec : {M : Type 1} → statement M
+exit_line_spec =
     tie.close
-    (tie.spec (λ c κs. search rules) end-line-requires (λ c. search rules) returns)
+    (tie.spec (λ c κs. search rules) end_line_requires (λ c. search rules) returns)

@@ -16,8 +16,8 @@ returns c =
     let left = lent1.before.before in
     rw (append-nil, ← append_assoc) (left.exit_line.ensures then through.exit-line2.ensures then right.exit-line3.ensures)
 
-pub exit-lines-spec : {M : Type 1} → statement M
-exit-lines-spec =
+pub exit_lines_spec : {M : Type 1} → statement M
+exit_lines_spec =
     tie.close
     (tie.spec (λ c. search rules) (λ c κs. search rules) (λ c. search rules) (λ c κs. search rules) (λ c. search rules) (λ c κs. search rules)
     (λ c. search rules) returns)

@@ -3,37 +3,37 @@ use native.Mathlib.Omega.{arith}
 use borrow.Author.Rules.{rules}
 use Prim.Native.Nat.{◌-◌, ◌≤◌}
 use lib.ListN.{length, drop}
-use Rattle.buffer.specs.Pieces.{Appending, appending-start, appending-turn, appending-done}
-use Rattle.sheet_page.proofs.Lines.{runLines, run-from, run_none}
+use Rattle.buffer.specs.Pieces.{Appending, appending_start, appending_turn, appending_done}
+use Rattle.sheet_page.proofs.Lines.{run_lines, run_from, run_none}
 use Rattle.sheet_page.proofs.flow_lines.Statement.{statement}
 use Rattle.sheet_page.proofs.flow_lines.Tie as tie
 
-abbrev invariant-loop : tie.invariant-loop
-invariant-loop text₀ at run p₀ i₀ text p i = (i ≤ length run) × Appending text₀ at (runLines run) text p (runLines (drop i run))
+abbrev invariant_loop : tie.invariant-loop
+invariant_loop text₀ at run p₀ i₀ text p i = (i ≤ length run) × Appending text₀ at (run_lines run) text p (run_lines (drop i run))
 
-abbrev decreases-loop : tie.decreases-loop
-decreases-loop text₀ at run p₀ i₀ text p i = length run - i
+abbrev decreases_loop : tie.decreases-loop
+decreases_loop text₀ at run p₀ i₀ text p i = length run - i
 
-loop-holds : tie.Need-loop-init invariant-loop decreases-loop
-loop-holds c = (omega arith, appending-start _ _ _)
+loop_holds : tie.Need-loop-init invariant_loop decreases_loop
+loop_holds c = (omega arith, appending_start _ _ _)
 
-loop-again : tie.Need-loop-preserved invariant-loop decreases-loop
-loop-again c =
+loop_again : tie.Need-loop-preserved invariant_loop decreases_loop
+loop_again c =
     let at-line = c.before.before in
     let n = at-line.before.before.before in
     let t = n.before in (
       omega (arith, n.least.ensures, t.loop-test.true),
-      appending-turn t.before.loop.invariant.1 at-line.columns-line.ensures _ (run-from _ _ _ t.loop-test.true n.least.ensures),
+      appending_turn t.before.loop.invariant.1 at-line.columns-line.ensures _ (run_from _ _ _ t.loop-test.true n.least.ensures),
     )
 
-same_length : tie.Need-same-length invariant-loop decreases-loop
+same_length : tie.Need-same-length invariant_loop decreases_loop
 same_length c = c.before.loop.invariant.1.long
 
-returns : tie.Need-returns invariant-loop decreases-loop
-returns c = appending-done c.before.loop.invariant.1 (run_none _ _ c.loop-test.false)
+returns : tie.Need-returns invariant_loop decreases_loop
+returns c = appending_done c.before.loop.invariant.1 (run_none _ _ c.loop-test.false)
 
-pub flow-lines-spec : {M : Type 1} → statement M
-flow-lines-spec =
+pub flow_lines_spec : {M : Type 1} → statement M
+flow_lines_spec =
     tie.close
-    (tie.spec invariant-loop decreases-loop loop-holds (λ c. search rules) (λ c κs. search rules) (λ c. search rules) (λ c. search rules) (λ c. search rules)
-    (λ c. search rules) (λ c. search rules) (λ c κs. search rules) (λ c. search rules) (λ c. search rules) loop-again same_length returns)
+    (tie.spec invariant_loop decreases_loop loop_holds (λ c. search rules) (λ c κs. search rules) (λ c. search rules) (λ c. search rules) (λ c. search rules)
+    (λ c. search rules) (λ c. search rules) (λ c κs. search rules) (λ c. search rules) (λ c. search rules) loop_again same_length returns)

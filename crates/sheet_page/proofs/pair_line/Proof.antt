@@ -6,5 +6,5 @@ use Rattle.sheet_page.proofs.pair_line.Tie as tie
 returns : tie.Need-returns
 returns c = c.before.before.columns-line.ensures
 
-pub pair-line-spec : {M : Type 1} → statement M
-pair-line-spec = tie.close (tie.spec (λ c. search rules) (λ c κs. search rules) (λ c. search rules) returns)
+pub pair_line_spec : {M : Type 1} → statement M
+pair_line_spec = tie.close (tie.spec (λ c. search rules) (λ c κs. search rules) (λ c. search rules) returns)

@@ -19,8 +19,8 @@ returns c =
     let signalised = left.pair_line.ensures then through.pair-line2.ensures then right.pair-line3.ensures in
     rw append-nil (simp append_assoc at (signalised then access.pair-line4.ensures))
 
-pub pair-lines-spec : {M : Type 1} → statement M
-pair-lines-spec =
+pub pair_lines_spec : {M : Type 1} → statement M
+pair_lines_spec =
     tie.close
     (tie.spec (λ c. search rules) (λ c κs. search rules) (λ c. search rules) (λ c κs. search rules) (λ c. search rules) (λ c κs. search rules)
     (λ c. search rules) (λ c κs. search rules) (λ c. search rules) returns)

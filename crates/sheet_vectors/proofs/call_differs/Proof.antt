@@ -17,8 +17,8 @@ same_length c =
     let lent-page : tie.After-page = output-lent.before.before in
     at-sheet.sheet.auto.1.0 ∙ lent-page.before.lend.auto.0
 
-pub call-differs-spec : {M : Type 1} → statement M
-call-differs-spec =
+pub call_differs_spec : {M : Type 1} → statement M
+call_differs_spec =
     tie.close
     (tie.spec (λ c κs. search rules) (λ c κs. search rules) (λ c κs. search rules) same_length (λ c. search rules) (λ c. search rules) (λ c. search rules)
     (λ c. search rules))

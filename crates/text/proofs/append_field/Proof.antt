@@ -12,5 +12,5 @@ returns c =
     let at-put = at-decimal.before.before.before.before in
     at-put.put.ensures then at-decimal.append-decimal.ensures
 
-pub append-field-spec : {M : Type 1} → statement M
-append-field-spec = tie.close (tie.spec (λ c κs. search rules) (λ c κs. search rules) (λ c. search rules) returns)
+pub append_field_spec : {M : Type 1} → statement M
+append_field_spec = tie.close (tie.spec (λ c κs. search rules) (λ c κs. search rules) (λ c. search rules) returns)

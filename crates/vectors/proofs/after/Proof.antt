@@ -7,11 +7,11 @@ use Rattle.vectors.proofs.after.Tie as tie
 returns : tie.Need-returns
 returns c = none_after _ _ c.before.if1.true
 
-returns-2 : tie.Need-returns-2
-returns-2 c = let at-start = c.before.before in all_after at-start.args.expected.now at-start.args.n
+returns_2 : tie.Need-returns-2
+returns_2 c = let at-start = c.before.before in all_after at-start.args.expected.now at-start.args.n
 
-pub after-spec : {M : Type 1} → statement M
-after-spec =
+pub after_spec : {M : Type 1} → statement M
+after_spec =
     tie.close
     (tie.spec (λ c. search rules) (λ c. search rules) (λ c. search rules) returns (λ c. search rules) (λ c. search rules) (λ c. search rules)
-    (λ c. search rules) returns-2)
+    (λ c. search rules) returns_2)

@@ -16,23 +16,23 @@ number nan e = absurd (true≢false e)
 number (inf s) e = tt
 number (fin s m k) e = tt
 
-nan-bits : (x : Float) → ne x x ≡ true → 0x7ff8_0000_0000_0000 ≡ to_bits binary64 x
+nan_bits : (x : Float) → ne x x ≡ true → 0x7ff8_0000_0000_0000 ≡ to_bits binary64 x
 unfolding ne eq to_bits
-nan-bits nan e = refl
-nan-bits (inf true) e = absurd (false≢true e)
-nan-bits (inf false) e = absurd (false≢true e)
-nan-bits (fin true m k) e =
+nan_bits nan e = refl
+nan_bits (inf true) e = absurd (false≢true e)
+nan_bits (inf false) e = absurd (false≢true e)
+nan_bits (fin true m k) e =
     let q = eq-eqb (m * up k * down k) (m * up k * down k) refl in
     absurd (false≢true (sym (rw q) ∙ e))
-nan-bits (fin false m k) e =
+nan_bits (fin false m k) e =
     let q = eq-eqb (m * up k * down k) (m * up k * down k) refl in
     absurd (false≢true (sym (rw q) ∙ e))
 
 returns : tie.Need-returns
-returns c = nan-bits c.before.args.x c.if1.true
+returns c = nan_bits c.before.args.x c.if1.true
 
-float-to-bits-result : tie.Need-float-to-bits-result
-float-to-bits-result c = number c.before.args.x c.if1.false
+float_to_bits_result : tie.Need-float-to-bits-result
+float_to_bits_result c = number c.before.args.x c.if1.false
 
-pub bits-spec : {M : Type 1} → statement M
-bits-spec = tie.close (tie.spec returns float-to-bits-result (λ c. search rules))
+pub bits_spec : {M : Type 1} → statement M
+bits_spec = tie.close (tie.spec returns float_to_bits_result (λ c. search rules))

@@ -6,17 +6,17 @@ use borrow.Author.Rules.{rules}
 use Rattle.working_vectors.proofs.main.Statement.{statement}
 use Rattle.working_vectors.proofs.main.Tie as tie
 
-abbrev invariant-loop : tie.invariant-loop
-invariant-loop cases differing₀ i₀ differing i = (differing ≤ i) × (i ≤ cases)
+abbrev invariant_loop : tie.invariant-loop
+invariant_loop cases differing₀ i₀ differing i = (differing ≤ i) × (i ≤ cases)
 
-abbrev decreases-loop : tie.decreases-loop
-decreases-loop cases differing₀ i₀ differing i = cases - i
+abbrev decreases_loop : tie.decreases-loop
+decreases_loop cases differing₀ i₀ differing i = cases - i
 
-loop-again : tie.Need-loop-preserved invariant-loop decreases-loop
-loop-again c = ⊎_elim (λ w. omega arith) (λ w. omega arith) c.if1.branch
+loop_again : tie.Need-loop-preserved invariant_loop decreases_loop
+loop_again c = ⊎_elim (λ w. omega arith) (λ w. omega arith) c.if1.branch
 
 pub main_spec : {M : Type 1} → statement M
 main_spec =
     tie.close
-    (tie.spec invariant-loop decreases-loop (λ c. search rules) (λ c κs. search rules) (λ c. omega arith) (λ c κs. tt) (λ c κs. omega arith)
-    (λ c. omega arith) (λ c. omega arith) loop-again (λ c. search rules) (λ c κs. tt) (λ c. tt))
+    (tie.spec invariant_loop decreases_loop (λ c. search rules) (λ c κs. search rules) (λ c. omega arith) (λ c κs. tt) (λ c κs. omega arith)
+    (λ c. omega arith) (λ c. omega arith) loop_again (λ c. search rules) (λ c κs. tt) (λ c. tt))
