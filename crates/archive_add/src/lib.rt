@@ -1,4 +1,6 @@
 // Adding a record to an archive: the old archive and one record more are written to a second buffer.
+#![tactic(auto)]
+
 ghost use Rattle.std.specs.Prelude.{◌≡◌, length};
 ghost use Rattle.archive_format.specs.Archive.{Sized, title_fits, first_edition};
 ghost use Rattle.archive_add.specs.Adds.{Adds};

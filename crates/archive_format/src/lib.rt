@@ -1,4 +1,6 @@
 // Archives of segment records (paper 01: drawers of cards). What they mean is in specs/.
+#![tactic(auto)]
+
 ghost use Rattle.std.specs.Prelude.{◌≡◌, []};
 ghost use Rattle.archive_format.specs.Archive.{encode, first_edition};
 
@@ -9,7 +11,7 @@ pub const RECORD_LIMIT: usize = 512;
 pub const TITLE_LIMIT: usize = 40;
 
 // The size of a record and the two bytes that mark an archive of them.
-#[derive(Drop)]
+#[derive(Clone, Copy)]
 pub struct Edition {
     pub size: usize,
     pub first: u8,
@@ -24,14 +26,14 @@ pub const FIRST_EDITION: Edition = Edition {
 };
 
 // A place, a count or a length; or the paper's number of a refusal.
-#[derive(Drop)]
+#[derive(Clone, Copy)]
 pub enum Answer {
     Refused(u32),
     Value(usize),
 }
 
 // Where a title stands in its archive, and its length; or the paper's number of a refusal.
-#[derive(Drop)]
+#[derive(Clone, Copy)]
 pub enum TitlePart {
     Refused(u32),
     Part { place: usize, length: usize },

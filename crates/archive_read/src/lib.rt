@@ -1,5 +1,7 @@
 // Reading archives of segment records: how many, the place of each, finding by number, titles.
 // Each call says the paper's number of a refusal; none asks anything of its caller.
+#![tactic(auto)]
+
 ghost use Rattle.std.specs.Prelude.{◌≡◌};
 ghost use Rattle.archive_format.specs.Archive.{Sized, answer_of, count_of, place_of, find_of, title_part_of, title_of, first_edition};
 

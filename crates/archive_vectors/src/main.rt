@@ -1,4 +1,6 @@
 // Compares the archive calls with the vectors of docs/VECTORS.md. A body is a kind, an archive, what is asked and what must be answered.
+#![tactic(auto)]
+
 ghost use Rattle.std.specs.Prelude.{◌<◌};
 
 use archive_format::Answer;

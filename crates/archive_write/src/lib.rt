@@ -1,5 +1,7 @@
 // Writing an archive with one record more into a lent buffer, part by part from a place on; each part returns the place after it.
 // A lower layer's function: `grow` asks of its caller that the bytes fit.
+#![tactic(auto)]
+
 ghost use Rattle.std.specs.Prelude.{◌≡◌, ◌/◌, ◌%◌, ◌<◌, length};
 ghost use Rattle.octets.specs.Octets.{bytes2, word2_bound};
 ghost use Rattle.buffer.specs.Buffer.{Wrote};

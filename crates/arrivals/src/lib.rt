@@ -1,5 +1,7 @@
 // Arrivals at the four exits: an output of four runs, one number for each step of the cycle, exits in order.
 // Access begins the runs; then each signalised entry's arrivals are added, pair by pair, where they land.
+#![tactic(auto)]
+
 ghost use Rattle.std.specs.Prelude.{◌≡◌, ◌+◌, ◌-◌, ◌*◌, ◌≤◌, ◌<◌, length};
 ghost use Rattle.signal.specs.Landing.{added};
 ghost use Rattle.pair_parts.specs.PairParts.{part_of, rest_of, pair_arrivals};
@@ -8,7 +10,7 @@ ghost use Rattle.arrivals.specs.Arrivals.{LandsFit, PairFits, EntryFits, begun, 
 use signal::Step;
 
 // A pair's part of one arrival, and what is carried to the next.
-#[derive(Drop)]
+#[derive(Clone, Copy)]
 struct Part {
     flow: u32,
     carry: u32,

@@ -1,5 +1,7 @@
 // Balancing of discharge and exit volumes over the sixteen pairs of an entry and an exit:
 // rounds of equations 30-4 to 30-7 until the adjusted origins settle.
+#![tactic(auto)]
+
 ghost use Rattle.std.specs.Prelude.{◌≡◌};
 ghost use Rattle.balance_flows.specs.Flows.{no_flows};
 ghost use Rattle.balance.specs.Settling.{round_limit, cell, cell_row, cells_of, unsettled, closed, start, settle, balanced};
@@ -9,14 +11,14 @@ use balance_round::Round;
 use movements::{Counts, Seeds};
 
 // The outcome with the last sum of differences reached.
-#[derive(Drop)]
+#[derive(Clone, Copy)]
 pub enum Settling {
     Settled(f64),
     Unsettled(f64),
 }
 
 // `rounds` counts the rounds whose sum was reached. The cells are all 0 where unsettled.
-#[derive(Drop)]
+#[derive(Clone, Copy)]
 pub struct Balance {
     pub settling: Settling,
     pub rounds: u32,

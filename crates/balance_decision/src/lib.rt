@@ -1,5 +1,7 @@
 // The sixteen pair flows of given discharge, exit volumes and seeds, or why there are none.
 // A lower layer's crate: its functions ask that no entry discharges more than 6000 veh/h.
+#![tactic(auto)]
+
 ghost use Rattle.std.specs.Prelude.{◌≡◌};
 ghost use Rattle.balance_pairs.specs.Pairs.{WithinLimit};
 ghost use Rattle.balance_decision.specs.Outcome.{last_sum_of, refusal_of};
@@ -10,7 +12,7 @@ use movements::{Counts, Seeds};
 use pair_flows::PairFlows;
 
 // Worked and unsettled, 15, tell the last sum of differences; a refusal tells the paper's number.
-#[derive(Drop)]
+#[derive(Clone, Copy)]
 pub enum Outcome {
     Worked(f64),
     Refused(u32),
@@ -18,7 +20,7 @@ pub enum Outcome {
 }
 
 // Where refused, 15 too, no rounds are told and the pair flows are all 0.
-#[derive(Drop)]
+#[derive(Clone, Copy)]
 pub struct Decision {
     pub outcome: Outcome,
     pub rounds: u32,

@@ -1,11 +1,13 @@
 // Four floats, one for each movement in the order left, through, right, access, and what is computed with them.
 // Every operation rounds once, and sums run in that order.
+#![tactic(auto)]
+
 ghost use Rattle.std.specs.Prelude.{◌≡◌};
 ghost use Rattle.std.specs.Float.Ieee.Scale.{finite};
 ghost use Rattle.balance_flows.specs.Flows.{all_finite, table_finite, total, quotient, quotients};
 
 // One figure for each movement: the paper's record of floats.
-#[derive(Drop)]
+#[derive(Clone, Copy)]
 pub struct Flows {
     pub left: f64,
     pub through: f64,
@@ -14,7 +16,7 @@ pub struct Flows {
 }
 
 // A row of four exits for each entry.
-#[derive(Drop)]
+#[derive(Clone, Copy)]
 pub struct FlowTable {
     pub left: Flows,
     pub through: Flows,

@@ -1,5 +1,7 @@
 // The pair flows of each entry: what its discharge sends to each exit.
 // A lower layer's crate: `pair_rows` asks that no entry discharges more than 6000 veh/h.
+#![tactic(auto)]
+
 ghost use Rattle.std.specs.Prelude.{◌≡◌, ◌≤◌};
 ghost use Rattle.balance_pairs.specs.Pairs.{WithinLimit, cell_units, pair_row, pair_rows};
 

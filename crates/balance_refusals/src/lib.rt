@@ -1,4 +1,6 @@
 // Whether the volumes can be balanced at all, by whole numbers alone.
+#![tactic(auto)]
+
 ghost use Rattle.std.specs.Prelude.{◌≡◌, ◌≤◌};
 ghost use Rattle.balance_refusals.specs.Refusals.{counts_total, no_volume, meets, unserved_entry, unserved_exit, any_unserved_entry, any_unserved_exit};
 

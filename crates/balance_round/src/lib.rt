@@ -1,4 +1,6 @@
 // One round of balancing, equations 30-4 to 30-7. Destinations are the exits, origins the entries.
+#![tactic(auto)]
+
 ghost use Rattle.std.specs.Prelude.{◌≡◌};
 ghost use Rattle.balance_flows.specs.Flows.{flows_of, weighted};
 ghost use Rattle.balance_round.specs.Round.{destinations, factors_of, difference, change, no_quotient, any_no_quotient, round_of, stops};
@@ -7,7 +9,7 @@ use balance_flows::{FlowTable, Flows};
 
 // What one round computes, in its order: adjusted destination volumes Da, destination adjustment factors b,
 // origin adjustment factors, adjusted origin volumes Oa, and the sum of the differences of new and old Oa.
-#[derive(Drop)]
+#[derive(Clone, Copy)]
 pub struct Round {
     pub destinations: Flows,
     pub ratios: Flows,

@@ -1,6 +1,8 @@
 // Compares balancing and pair flows with test vectors from standard input, every number by its bits.
 // A body of 260 bytes has at 0 four u32 discharges, at 16 four u32 exit volumes, at 32 sixteen seeds, at 48 the number, at 52 the outcome,
 // at 56 the rounds, at 60 the last sum, at 68 sixteen cells, at 196 sixteen pair flows.
+#![tactic(auto)]
+
 ghost use Rattle.std.specs.Prelude.{◌+◌, ◌≤◌, length};
 ghost use Rattle.balance_pairs.specs.Pairs.{WithinLimit};
 

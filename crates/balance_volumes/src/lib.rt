@@ -1,4 +1,6 @@
 // Whole volumes and seeds as 64-bit floats, and the exits' volumes adjusted to what is discharged.
+#![tactic(auto)]
+
 ghost use Rattle.std.specs.Prelude.{◌≡◌};
 ghost use Rattle.balance_volumes.specs.Volumes.{discharge_float, exit_float, proportion, destination_volume};
 ghost use Rattle.balance_volumes.specs.Volumes.{discharge_floats, exit_floats, proportion_row, proportions, destination_volumes};

@@ -1,4 +1,6 @@
 // Bytes put into a lent buffer from a place on, as many as it has room for; what lies beyond them is kept.
+#![tactic(auto)]
+
 ghost use Rattle.std.specs.Prelude.{◌≡◌, min};
 ghost use Rattle.buffer.specs.Buffer.{Wrote};
 

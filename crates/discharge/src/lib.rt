@@ -1,4 +1,6 @@
 // The discharge call: a segment record's three discharge profiles and volumes, or a refusal by number.
+#![tactic(auto)]
+
 ghost use Rattle.std.specs.Prelude.{◌≡◌, ◌*◌, ◌≤◌, length};
 ghost use Rattle.refusal.specs.Refusal.{ok};
 ghost use Rattle.ranges.specs.Ranges.{Ranges};
@@ -10,7 +12,7 @@ use segment::Segment;
 use validation::Checked;
 
 // The paper's number, or the three entries' discharge volumes in veh/h.
-#[derive(Drop)]
+#[derive(Clone, Copy)]
 pub enum Discharged {
     Refused(u32),
     Volumes { left: u32, through: u32, right: u32 },

@@ -1,4 +1,6 @@
 // Runs the discharge call on the vectors of docs/VECTORS.md and compares every number.
+#![tactic(auto)]
+
 ghost use Rattle.std.specs.Prelude.{◌+◌, ◌*◌, ◌≤◌, length};
 ghost use Rattle.discharge_vectors.specs.Room.{room};
 

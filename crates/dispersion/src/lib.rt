@@ -1,5 +1,7 @@
 // Platoon dispersion along a segment, from equations 30-11 and 30-12 with steps of one second.
 // Running times are in milliseconds; profiles hold one number of flow units for each step.
+#![tactic(auto)]
+
 ghost use Rattle.std.specs.Prelude.{◌≡◌, ◌≤◌, ◌<◌, length};
 ghost use Rattle.limits.specs.Limits.{most_running};
 ghost use Rattle.dispersion.specs.Dispersion.{divisor_of, arrival_time_of, step_of, state_after, cycle_written};
@@ -10,7 +12,7 @@ ghost use Rattle.dispersion.specs.Rest.{needed_of};
 const SMOOTHING: u64 = 500000;
 
 // The segment after a step: the arrival, which is the level of the next step, and the remainder carried on.
-#[derive(Drop)]
+#[derive(Clone, Copy)]
 pub struct PlatoonState {
     pub level: u32,
     pub carry: u32,

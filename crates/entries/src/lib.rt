@@ -1,4 +1,6 @@
 // The signalised entries of a segment: the discharge profile of one, and of all three.
+#![tactic(auto)]
+
 ghost use Rattle.std.specs.Prelude.{◌≡◌};
 ghost use Rattle.entries.specs.Entries.{ProfileFits, ProfilesFit, entry_profile, entry_profiles};
 

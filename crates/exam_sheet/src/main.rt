@@ -1,4 +1,6 @@
 // Exam sheets: an archive of segment records on standard input, a page for each record on standard output.
+#![tactic(auto)]
+
 use program::{read_input, write_answer};
 use report::{Form, INPUT_LIMIT, SHEETS_ROOM};
 

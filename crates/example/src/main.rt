@@ -1,4 +1,6 @@
 // The README's examples, run: a record is tested, filed with a title, found again, printed and worked.
+#![tactic(auto)]
+
 use archive_format::{Answer, TitlePart};
 use balance_decision::Outcome;
 use discharge::Discharged;

@@ -1,4 +1,6 @@
 // Figures of one exit's run: its total, what arrives on green, and the steps in which a crossing is blocked.
+#![tactic(auto)]
+
 ghost use Rattle.std.specs.Prelude.{◌≡◌, ◌<◌, ◌≤◌, length};
 ghost use Rattle.limits.specs.Limits.{step_bound};
 ghost use Rattle.lists.specs.Lists.{sum};
@@ -12,7 +14,7 @@ const CRITICAL_PRODUCT: u64 = 3600000000;
 
 // A run's flow units in the cycle and in its green steps, and the thousandths that arrive on green.
 #[repr(C)]
-#[derive(Drop)]
+#[derive(Clone, Copy)]
 pub struct ExitFigures {
     pub total: u64,
     pub green: u64,

@@ -3,6 +3,8 @@
 // A pointer is to as many numbers as its length says, aligned as their type; with length 0 it may be any, null too.
 // What a call writes overlaps nothing else that it is lent. Contracts go by the names of fields and parameters, so that their order
 // in a caller's declaration is compared by runs alone (reference/linked).
+#![tactic(auto)]
+
 ghost use Rattle.std.specs.Prelude.{◌≡◌, length};
 ghost use Rattle.propagation.specs.Propagation.{lent};
 ghost use Rattle.archive_format.specs.Archive.{add_of, answer_of, count_of, find_of, place_of, first_edition, title_part_of};
@@ -20,7 +22,7 @@ use working_outcome::Working;
 
 // A working's answer: 0 and 15 tell the last sum.
 #[repr(C)]
-#[derive(Drop)]
+#[derive(Clone, Copy)]
 pub struct WorkAnswer {
     pub number: u32,
     pub rounds: u32,
@@ -36,7 +38,7 @@ pub struct WorkAnswer {
 
 // A working with points: the working's answer, and the blocked steps at each point.
 #[repr(C)]
-#[derive(Drop)]
+#[derive(Clone, Copy)]
 pub struct PointWorkAnswer {
     pub work: WorkAnswer,
     pub blocked: [u32; points::POINT_ROOM],
@@ -44,7 +46,7 @@ pub struct PointWorkAnswer {
 
 // The three entries' discharge volumes in veh/h.
 #[repr(C)]
-#[derive(Drop)]
+#[derive(Clone, Copy)]
 pub struct VolumesAnswer {
     pub number: u32,
     pub left: u32,
@@ -54,7 +56,7 @@ pub struct VolumesAnswer {
 
 // A count, a place or a length.
 #[repr(C)]
-#[derive(Drop)]
+#[derive(Clone, Copy)]
 pub struct ValueAnswer {
     pub number: u32,
     pub value: usize,
@@ -62,7 +64,7 @@ pub struct ValueAnswer {
 
 // Where a title stands in its archive.
 #[repr(C)]
-#[derive(Drop)]
+#[derive(Clone, Copy)]
 pub struct TitleAnswer {
     pub number: u32,
     pub place: usize,

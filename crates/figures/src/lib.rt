@@ -1,1 +1,2 @@
 // The figures of the paper are theorems in specs/: nothing runs here.
+#![tactic(auto)]

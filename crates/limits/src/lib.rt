@@ -1,4 +1,5 @@
 // The ends of the ranges that a segment record's fields lie in, and the sizes of the arrays that follow from them.
+#![tactic(auto)]
 
 // In steps of one second.
 pub const LEAST_CYCLE: u32 = 30;

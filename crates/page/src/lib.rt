@@ -1,4 +1,6 @@
 // Lines of 72 bytes and pages of sixty lines in a lent buffer.
+#![tactic(auto)]
+
 ghost use Rattle.std.specs.Prelude.{◌-◌, ◌≤◌};
 ghost use Rattle.buffer.specs.Buffer.{Wrote};
 ghost use Rattle.page.specs.Page.{blank_lines, line_end, page_lines};

@@ -1,10 +1,12 @@
 // The sixteen pair flows in a struct, so that they stand beside an enum in an answer.
+#![tactic(auto)]
+
 ghost use Rattle.std.specs.Prelude.{◌≡◌};
 ghost use Rattle.pair_flows.specs.Pairs.{pair_flows, rows_of};
 
 // Flow units of each pair: a row of four exits for each entry.
 #[repr(C)]
-#[derive(Drop)]
+#[derive(Clone, Copy)]
 pub struct PairFlows {
     pub rows: [[u32; 4]; 4],
 }

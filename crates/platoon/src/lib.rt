@@ -1,4 +1,6 @@
 // Platoon discharge: what one signalised entry sends into the segment in each step of a cycle.
+#![tactic(auto)]
+
 ghost use Rattle.std.specs.Prelude.{◌≡◌, ◌+◌, ◌*◌, ◌/◌, ◌≤◌, ◌<◌, length, replicate};
 ghost use Rattle.limits.specs.Limits.{entry_limit, flow_limit, most_arriving, step_bound};
 ghost use Rattle.signal.specs.Greens.{GreenFits};
@@ -9,7 +11,7 @@ use movements::flow_units;
 use signal::Green;
 
 // The queue of a green: what waits as it starts, what arrives while it lasts, what a step can serve.
-#[derive(Drop)]
+#[derive(Clone, Copy)]
 pub struct Queue {
     pub waiting: u64,
     pub arriving: u64,
@@ -17,7 +19,7 @@ pub struct Queue {
 }
 
 // One green step: what it discharges, and what waits after it.
-#[derive(Drop)]
+#[derive(Clone, Copy)]
 pub struct Served {
     pub flow: u32,
     pub waiting: u64,

@@ -1,4 +1,6 @@
 // Filling the point profiles of an accepted segment: the flow that passes each point, and its blocked steps.
+#![tactic(auto)]
+
 ghost use Rattle.std.specs.Prelude.{◌≡◌, length};
 ghost use Rattle.signal.specs.Landing.{added};
 ghost use Rattle.dispersion.specs.Dispersion.{arrival_time_of, reported};

@@ -1,4 +1,6 @@
 // Runs the working with points on the vectors of docs/VECTORS.md and compares number, counts and every number of the four profiles.
+#![tactic(auto)]
+
 ghost use Rattle.std.specs.Prelude.{◌+◌, ◌≤◌, length};
 ghost use Rattle.point_vectors.specs.Room.{Lendable};
 

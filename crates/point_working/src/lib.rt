@@ -1,4 +1,6 @@
 // The working of a segment record with points along it: everything is decided first, then the four lent profiles are filled.
+#![tactic(auto)]
+
 ghost use Rattle.std.specs.Prelude.{◌≡◌};
 ghost use Rattle.validation.specs.Validation.{checked_of};
 ghost use Rattle.propagation.specs.Propagation.{lent};
@@ -17,7 +19,7 @@ use validation::Checked;
 use working_outcome::Working;
 
 // A working, and the blocked steps at each point; 0 for the points that are not given, and for all of a refusal.
-#[derive(Drop)]
+#[derive(Clone, Copy)]
 pub struct PointWorking {
     pub working: Working,
     pub blocked: [u32; points::POINT_ROOM],

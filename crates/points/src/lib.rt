@@ -1,4 +1,6 @@
 // Points along a segment at which a working is asked for the flow that passes: which are given, and their test.
+#![tactic(auto)]
+
 ghost use Rattle.std.specs.Prelude.{◌≡◌, ◌≤◌};
 ghost use Rattle.points.specs.Points.{most_points, given, point_fits, all_fit};
 
@@ -9,7 +11,7 @@ pub const POINT_ROOM: usize = MOST_POINTS as usize;
 
 // Running time from the upstream signal, and critical headway, in milliseconds.
 #[repr(C)]
-#[derive(Drop)]
+#[derive(Clone, Copy)]
 pub struct Point {
     pub running: u32,
     pub headway: u32,
@@ -17,7 +19,7 @@ pub struct Point {
 
 // The first so many of the places are given; the others are not looked at.
 #[repr(C)]
-#[derive(Drop)]
+#[derive(Clone, Copy)]
 pub struct Points {
     pub count: u32,
     pub at: [Point; POINT_ROOM],

@@ -1,4 +1,6 @@
 // What the programs share: an archive read from standard input, and the text of it written to standard output.
+#![tactic(auto)]
+
 ghost use Rattle.std.specs.Prelude.{◌≡◌, ◌+◌, ◌≤◌, length};
 ghost use Rattle.report.specs.Report.{input_limit, input_text};
 ghost use Rattle.report.specs.Whole.{Text};

@@ -1,4 +1,6 @@
 // Filling the lent profiles of an accepted segment, once its pair flows are decided.
+#![tactic(auto)]
+
 ghost use Rattle.std.specs.Prelude.{◌≡◌};
 ghost use Rattle.propagation.specs.Propagation.{filled_of, lent};
 ghost use Rattle.propagation.specs.Steps.{FillEntryFits, FillFits, SpreadFits, entry_step, spread_step};

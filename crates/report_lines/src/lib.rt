@@ -1,4 +1,6 @@
 // The lines that the program prints, from plain numbers, appended to a lent buffer. None of the calls asks anything of its caller.
+#![tactic(auto)]
+
 ghost use Rattle.buffer.specs.Buffer.{Wrote};
 ghost use Rattle.text.specs.Words.{newline};
 ghost use Rattle.report_lines.specs.Lines.{access_line, archive_refused_line, blocked_line, exit_line, exit_words, record_line, record_words};

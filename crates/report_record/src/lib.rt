@@ -1,4 +1,6 @@
 // The lines of one record, from its number, its cycle and what its working answered, appended to a lent buffer.
+#![tactic(auto)]
+
 ghost use Rattle.buffer.specs.Buffer.{Wrote};
 ghost use Rattle.report_record.specs.Record.{record_text, worked_text};
 

@@ -1,4 +1,6 @@
 // The product: an archive of segment records on standard input, its figures on standard output.
+#![tactic(auto)]
+
 use program::{read_input, write_answer};
 use report::{Form, INPUT_LIMIT, TEXT_ROOM};
 

@@ -1,4 +1,6 @@
 // The exam sheet of a segment record: everything is decided first, then the three profiles are filled, then the page.
+#![tactic(auto)]
+
 ghost use Rattle.std.specs.Prelude.{◌≡◌, ◌≤◌, length};
 ghost use Rattle.ranges.specs.Ranges.{Ranges};
 ghost use Rattle.balance_decision.specs.declared.Outcome.TheVariants.{Worked};

@@ -1,4 +1,6 @@
 // The exam sheet of one record on a page, appended to a lent buffer: the record's line, its pair flows, its exits and the through run.
+#![tactic(auto)]
+
 ghost use Rattle.std.specs.Prelude.{◌+◌, ◌≤◌, ◌<◌, length};
 ghost use Rattle.buffer.specs.Buffer.{Wrote};
 ghost use Rattle.page.specs.Page.{line, lines};

@@ -1,5 +1,7 @@
 // Runs the sheet of a record on the vectors of docs/VECTORS.md and compares number, last sum, every byte of the page buffer and every
 // number of the three profiles.
+#![tactic(auto)]
+
 ghost use Rattle.std.specs.Prelude.{◌+◌, ◌*◌, ◌≤◌, length};
 ghost use Rattle.sheet_vectors.specs.Room.{Lendable};
 

@@ -1,4 +1,6 @@
 // Numbers, labels, blanks and columns appended to a lent buffer, as much of them as it has room for.
+#![tactic(auto)]
+
 ghost use Rattle.std.specs.Prelude.{◌≡◌, ◌-◌, ◌≤◌, ◌<◌, length};
 ghost use Rattle.buffer.specs.Buffer.{Wrote};
 ghost use Rattle.text.specs.Text.{Spelt, blanks, column, columns, decimal, field, most_blanks};

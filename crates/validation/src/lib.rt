@@ -1,11 +1,13 @@
 // The tests of a segment record: accepted, or refused by the lowest of the numbers 6 to 12.
+#![tactic(auto)]
+
 ghost use Rattle.std.specs.Prelude.{◌≡◌};
 ghost use Rattle.validation.specs.Validation.{check_of, checked_of};
 
 use segment::Segment;
 
 // A record's answer: the paper's number, or the segment.
-#[derive(Drop)]
+#[derive(Clone, Copy)]
 pub enum Checked {
     Refused(u32),
     Valid(Segment),

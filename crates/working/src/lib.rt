@@ -1,4 +1,6 @@
 // The working of a segment record: everything is decided first, then the lent profiles are filled.
+#![tactic(auto)]
+
 ghost use Rattle.std.specs.Prelude.{◌≡◌};
 ghost use Rattle.ranges.specs.Ranges.{Ranges};
 ghost use Rattle.validation.specs.Validation.{checked_of};

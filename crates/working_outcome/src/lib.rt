@@ -1,4 +1,6 @@
 // What the working of a segment record answers: its figures, read from a filled output, or a refusal.
+#![tactic(auto)]
+
 ghost use Rattle.std.specs.Prelude.{◌≡◌};
 ghost use Rattle.working_outcome.specs.Answer.{refused_with, worked_of};
 ghost use Rattle.working_outcome.specs.Filled.{Filled};
@@ -10,7 +12,7 @@ use segment::Segment;
 
 // Platoon arrival time in steps, rounds of balancing, the sixteen pair flows, the exits' figures (access its total alone),
 // and the blocked steps of the through exit. All 0 unless worked.
-#[derive(Drop)]
+#[derive(Clone, Copy)]
 pub struct Working {
     pub outcome: Outcome,
     pub arrival: u32,

@@ -1,4 +1,6 @@
 // Runs the working on the vectors of docs/VECTORS.md and compares the answer and every number of the three profiles.
+#![tactic(auto)]
+
 ghost use Rattle.std.specs.Prelude.{◌+◌, ◌*◌, ◌≤◌, length};
 ghost use Rattle.working_vectors.specs.Room.{room};
 
