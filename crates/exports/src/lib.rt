@@ -149,8 +149,8 @@ pub extern "C" fn segment_work(
     first: &mut [u32],
     second: &mut [u32],
 ) -> WorkAnswer
-    ensures { SegmentWorks bytes.now (lent output.entry first.entry second.entry)
-        result (lent output.exit first.exit second.exit) }
+    ensures { SegmentWorks bytes.now (lent output.old first.old second.old)
+        result (lent output.new first.new second.new) }
 {
     work_answer(working::work(bytes, output, first, second))
 }
@@ -165,8 +165,8 @@ pub extern "C" fn segment_work_points(
     first: &mut [u32],
     second: &mut [u32],
 ) -> PointWorkAnswer
-    ensures { SegmentPointWorks bytes.now points (lent output.entry first.entry second.entry) passing.old
-        result (lent output.exit first.exit second.exit) passing.new }
+    ensures { SegmentPointWorks bytes.now points (lent output.old first.old second.old) passing.old
+        result (lent output.new first.new second.new) passing.new }
 {
     point_work_answer(point_working::work_points(bytes, points, output, passing, first, second))
 }
@@ -180,8 +180,8 @@ pub extern "C" fn segment_sheet(
     first: &mut [u32],
     second: &mut [u32],
 ) -> WorkAnswer
-    ensures { SegmentSheets bytes.now (lent output.entry first.entry second.entry) page.old
-        result (lent output.exit first.exit second.exit) page.new }
+    ensures { SegmentSheets bytes.now (lent output.old first.old second.old) page.old
+        result (lent output.new first.new second.new) page.new }
 {
     work_answer(sheet::sheet(bytes, page, output, first, second))
 }

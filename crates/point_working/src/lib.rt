@@ -86,9 +86,9 @@ fn work_accepted(
     first: &mut [u32],
     second: &mut [u32],
 ) -> PointWorking
-    requires { Accepts s points (lent output first second) passing.old }
-    ensures { point_called result (lent output.exit first.exit second.exit) passing.new
-        ≡ with_points s points (by_decision s (decision_for s) (lent output.entry first.entry second.entry)) passing.old }
+    requires { Accepts s points (lent output.old first.old second.old) passing.old }
+    ensures { point_called result (lent output.new first.new second.new) passing.new
+        ≡ with_points s points (by_decision s (decision_for s) (lent output.old first.old second.old)) passing.old }
 {
     let working = working::work_accepted(s, output, first, second);
     let outcome = working.outcome;
@@ -116,8 +116,8 @@ pub fn work_points(
     first: &mut [u32],
     second: &mut [u32],
 ) -> PointWorking
-    ensures { PointWorks bytes.now points (lent output.entry first.entry second.entry) passing.old
-        result (lent output.exit first.exit second.exit) passing.new }
+    ensures { PointWorks bytes.now points (lent output.old first.old second.old) passing.old
+        result (lent output.new first.new second.new) passing.new }
 {
     let accepted = accept(
         bytes,

@@ -1,6 +1,5 @@
 -- The profiles of a segment whose pair flows are given: each entry's discharge dispersed, shared among the exits, and landed.
 use Rattle.std.specs.Prelude.{ℕ, suc, ◌+◌, ◌*◌, List, [], ◌++◌, drop, get_or}
-use Rattle.std.specs.Borrow.{Bor}
 use Rattle.signal.specs.Landing.{landing}
 use Rattle.segment.specs.declared.Entry.{Entry}
 use Rattle.segment.specs.declared.Segment.{Segment}
@@ -19,9 +18,9 @@ pub record Profiles : Type 0 where
 abbrev pub profiles : List ℕ → List ℕ → List ℕ → Profiles
 profiles o f s = record { output = o; first = f; second = s }
 
--- as a contract reads them behind the references that a call is lent
-abbrev pub lent : (output first second : Bor (List ℕ)) → Profiles
-lent output first second = profiles output.now first.now second.now
+-- as a contract reads them, behind the references that a call is lent
+abbrev pub lent : (output first second : List ℕ) → Profiles
+lent output first second = profiles output first second
 
 -- sixty-four cycles are worked before the reported one, sixty-five in all
 abbrev pub cycles_before : ℕ

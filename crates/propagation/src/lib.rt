@@ -21,9 +21,9 @@ fn spread(
     first: &mut [u32],
     second: &mut [u32],
 )
-    requires { SpreadFits running units row discharge.now (lent output first second) }
-    ensures { lent output.exit first.exit second.exit
-        ≡ spread_step running units row discharge.now (lent output.entry first.entry second.entry) }
+    requires { SpreadFits running units row discharge.now (lent output.old first.old second.old) }
+    ensures { lent output.new first.new second.new
+        ≡ spread_step running units row discharge.now (lent output.old first.old second.old) }
 {
     dispersion::alternate(running, discharge, first, second, CYCLES);
     let part = dispersion::last_cycle(&first[..], &second[..], CYCLES, discharge.len());
@@ -40,9 +40,9 @@ fn fill_entry(
     first: &mut [u32],
     second: &mut [u32],
 )
-    requires { FillEntryFits s.running s.cycle e o row (lent output first second) }
-    ensures { lent output.exit first.exit second.exit
-        ≡ entry_step s.running s.cycle e row (lent output.entry first.entry second.entry) }
+    requires { FillEntryFits s.running s.cycle e o row (lent output.old first.old second.old) }
+    ensures { lent output.new first.new second.new
+        ≡ entry_step s.running s.cycle e row (lent output.old first.old second.old) }
 {
     let c = s.cycle as usize;
     let mut discharge = [0u32; limits::CYCLE_ROOM];
@@ -68,8 +68,8 @@ pub fn fill(
     first: &mut [u32],
     second: &mut [u32],
 )
-    requires { FillFits s o rows (lent output first second) }
-    ensures { lent output.exit first.exit second.exit ≡ filled_of s rows (lent output.entry first.entry second.entry) }
+    requires { FillFits s o rows (lent output.old first.old second.old) }
+    ensures { lent output.new first.new second.new ≡ filled_of s rows (lent output.old first.old second.old) }
 {
     arrivals::begin(s.cycle as usize, rows[3], output);
     fill_entry(s, s.left, o.left, rows[0], output, first, second);

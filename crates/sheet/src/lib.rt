@@ -28,9 +28,9 @@ fn fill(
     first: &mut [u32],
     second: &mut [u32],
 ) -> Working
-    requires { Decided s sum decision (lent output first second) × (page_room ≤ length page.old) }
-    ensures { sheet_called result (lent output.exit first.exit second.exit) page.new
-        ≡ printed number s.cycle (by_outcome (Worked sum) s (decision_for s) (lent output.entry first.entry second.entry)) page.old }
+    requires { Decided s sum decision (lent output.old first.old second.old) × (page_room ≤ length page.old) }
+    ensures { sheet_called result (lent output.new first.new second.new) page.new
+        ≡ printed number s.cycle (by_outcome (Worked sum) s (decision_for s) (lent output.old first.old second.old)) page.old }
 {
     let w = working::fill(s, sum, decision, output, first, second);
     sheet_page::worked_page(page, 0, number, s.cycle, w, &output[..]);
@@ -46,10 +46,10 @@ fn sheet_accepted(
     first: &mut [u32],
     second: &mut [u32],
 ) -> Working
-    requires { Ranges s × Room s.cycle (lent output first second) }
-    ensures { sheet_called result (lent output.exit first.exit second.exit) page.new
-        ≡ sheet_by (decision_for s).outcome number s.cycle (by_decision s (decision_for s) (lent output.entry first.entry second.entry))
-        (lent output.entry first.entry second.entry) page.old }
+    requires { Ranges s × Room s.cycle (lent output.old first.old second.old) }
+    ensures { sheet_called result (lent output.new first.new second.new) page.new
+        ≡ sheet_by (decision_for s).outcome number s.cycle (by_decision s (decision_for s) (lent output.old first.old second.old))
+        (lent output.old first.old second.old) page.old }
 {
     let decision = working::decide(s);
     let outcome = decision.outcome;
@@ -74,8 +74,8 @@ pub fn sheet(
     first: &mut [u32],
     second: &mut [u32],
 ) -> Working
-    ensures { Sheets bytes.now (lent output.entry first.entry second.entry) page.old
-        result (lent output.exit first.exit second.exit) page.new }
+    ensures { Sheets bytes.now (lent output.old first.old second.old) page.old
+        result (lent output.new first.new second.new) page.new }
 {
     let accepted = working::accept(bytes, output.len(), first.len(), second.len());
     match accepted {

@@ -50,9 +50,9 @@ pub fn fill(
     first: &mut [u32],
     second: &mut [u32],
 ) -> Working
-    requires { Decided s sum decision (lent output first second) }
-    ensures { called result (lent output.exit first.exit second.exit)
-        ≡ by_outcome (Worked sum) s (decision_for s) (lent output.entry first.entry second.entry) }
+    requires { Decided s sum decision (lent output.old first.old second.old) }
+    ensures { called result (lent output.new first.new second.new)
+        ≡ by_outcome (Worked sum) s (decision_for s) (lent output.old first.old second.old) }
 {
     propagation::fill(
         s,
@@ -72,9 +72,9 @@ pub fn work_accepted(
     first: &mut [u32],
     second: &mut [u32],
 ) -> Working
-    requires { Ranges s × Room s.cycle (lent output first second) }
-    ensures { called result (lent output.exit first.exit second.exit)
-        ≡ by_decision s (decision_for s) (lent output.entry first.entry second.entry) }
+    requires { Ranges s × Room s.cycle (lent output.old first.old second.old) }
+    ensures { called result (lent output.new first.new second.new)
+        ≡ by_decision s (decision_for s) (lent output.old first.old second.old) }
 {
     let decision = decide(s);
     let outcome = decision.outcome;
@@ -88,7 +88,7 @@ pub fn work_accepted(
 // Works a segment record: four runs of C numbers to the output profile, exits in order; the first work profile is left with the
 // right entry's last cycle, the second with the one before it. Where it refuses, nothing is written.
 pub fn work(bytes: &[u8], output: &mut [u32], first: &mut [u32], second: &mut [u32]) -> Working
-    ensures { Works bytes.now (lent output.entry first.entry second.entry) result (lent output.exit first.exit second.exit) }
+    ensures { Works bytes.now (lent output.old first.old second.old) result (lent output.new first.new second.new) }
 {
     let accepted = accept(bytes, output.len(), first.len(), second.len());
     match accepted {
