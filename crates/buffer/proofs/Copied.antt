@@ -1,14 +1,11 @@
 -- As much of a piece as there is room for, copied into the middle of the buffer, is the piece put there.
-use Prim.Native.Nat.{ℕ, ◌+◌, ◌-◌, ◌≤◌, ◌<◌, min}
-use native.Mathlib.Nat.{sub-zero}
-use native.Mathlib.Omega.{arith}
-use mathlib.Core.Bool.{Bool, true, false}
-use mathlib.Core.Path.{◌≡◌, refl, sym, ap, ◌∙◌}
-use mathlib.Core.List.{List, ◌++◌, append_assoc, append-nil}
-use lib.Dec.{leb}
-use lib.ListN.{length, take, drop, length-take, length-drop, take-append-drop, drop_of_length-le}
-use lib.Seq.{sets, length-sets, sets-eq, take_all}
-use borrow.Author.Tests.{leb-true, leb-false}
+use Rattle.std.specs.Prelude.{ℕ, ◌+◌, ◌-◌, ◌≤◌, ◌<◌, min, Bool, true, false, ◌≡◌, refl, List, length, take, drop, leb}
+use Rattle.std.proofs.Common.{arith, sym, ap, ◌∙◌, append_assoc, leb-true, leb-false}
+use Rattle.std.proofs.Math.Nat.{sub-zero}
+use Rattle.std.proofs.Math.ListN.{drop_of_length-le, length-take}
+use Rattle.std.proofs.lemmas.List.{take-append-drop}
+use Rattle.std.proofs.lemmas.List.Edits.{sets, sets-eq}
+use Rattle.std.proofs.Math.Seq.{length-sets}
 use borrow.Rule.Slice.PartMut.{put_mid, Post-is}
 use Rattle.buffer.specs.Buffer.{put, next_place, Wrote}
 use Rattle.buffer.specs.Pieces.{sets_out, sets_append}
@@ -35,18 +32,11 @@ module _ (b : List ℕ) (at : ℕ) (piece : List ℕ) {n : ℕ} (start : at ≤ 
       go true e = rw (drop_of_length-le piece {i = n} (leb-true (length piece) n e))
       go false e = sets_out _ (at + n) (drop n piece) (rw length-sets (omega (arith, leb-false (length piece) n e, most, start)))
 
-  -- the part lent to the copy is as long as what is copied into it
-  filled : take (length (take (n - 0) piece)) (take (n - 0) piece) ++ drop (length (take (n - 0) piece)) (take (at + n - at) (drop at b)) ≡ take n piece
-  filled =
-      let short : length (take (at + n - at) (drop at b)) ≤ n = simp (length-take, length-drop) (omega arith) in
-      rw (sub-zero, taken, take_all n (take n piece) (omega (arith, taken)), drop_of_length-le _ {i = n} short, append-nil)
-
-  pub copied : {part : List ℕ}
-      → part ≡ take (length (take (n - 0) piece)) (take (n - 0) piece) ++ drop (length (take (n - 0) piece)) (take (at + n - at) (drop at b))
-      → Wrote b at piece (put_mid at (at + n - at) b part) (at + n)
+  -- the part lent to the copy becomes the front of the piece
+  pub copied : {part : List ℕ} → part ≡ take (n - 0) piece → Wrote b at piece (put_mid at (at + n - at) b part) (at + n)
   unfolding next_place
   copied e =
       let fits : at + length (take n piece) ≤ length b = omega (arith, taken, most, start) in
       let same : put_mid at (at + n - at) b (take n piece) ≡ sets b at (take n piece) =
       rw (Post-is at (at + n) b (omega arith), sets-eq (take n piece) b at fits, taken) (simp append_assoc) in
-      wrote b at piece (rw (e ∙ filled) (same ∙ sym cut)) (omega (arith, most, start))
+      wrote b at piece (rw (e, sub-zero) (same ∙ sym cut)) (omega (arith, most, start))

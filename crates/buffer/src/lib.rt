@@ -22,6 +22,6 @@ pub fn put(buffer: &mut [u8], at: usize, piece: &[u8]) -> usize
         return at;
     }
     let n = least(piece.len(), buffer.len() - at);
-    bytes::copy(&piece[0..n], &mut buffer[at..at + n]);
+    buffer[at..at + n].copy_from_slice(&piece[0..n]);
     at + n
 }
