@@ -31,12 +31,14 @@ pub fn is_finite(x: f64) -> bool
     (-infinity < x) & (x < infinity)
 }
 
+#[tactic(auto, unfolding(crate::specs::Flows::all_finite))]
 pub fn all_finite(x: Flows) -> bool
     ensures { result ≡ all_finite x }
 {
     is_finite(x.left) & is_finite(x.through) & is_finite(x.right) & is_finite(x.access)
 }
 
+#[tactic(auto, unfolding(crate::specs::Flows::table_finite))]
 pub fn table_finite(x: FlowTable) -> bool
     ensures { result ≡ table_finite x }
 {
@@ -55,6 +57,7 @@ fn quotient(n: f64, m: f64) -> f64
     if n == 0.0 { 0.0 } else { n / m }
 }
 
+#[tactic(auto, unfolding(crate::specs::Flows::quotients))]
 pub fn quotients(n: Flows, m: Flows) -> Flows
     ensures { result ≡ quotients n m }
 {
