@@ -11,7 +11,7 @@ pub struct PairFlows {
     pub rows: [[u32; 4]; 4],
 }
 
-// The only two functions that reach the field: their proofs walk the code by hand.
+// The only two functions that reach the field.
 pub fn from_rows(g: [[u32; 4]; 4]) -> PairFlows
     ensures { result ≡ pair_flows g }
 {
