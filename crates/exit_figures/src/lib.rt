@@ -75,6 +75,7 @@ pub fn figures(green: Green, run: &[u32]) -> ExitFigures
 }
 
 // Whether a flow leaves no critical headway, in ms, in its step.
+#[tactic(auto, unfolding(crate::specs::ExitFigures::blocked))]
 fn is_blocked(flow: u32, headway: u32) -> bool
     ensures { result ≡ blocked flow headway }
 {
