@@ -25,6 +25,7 @@ fn destination(o: Flows, left: f64, through: f64, right: f64, access: f64) -> f6
     o.left * left + o.through * through + o.right * right + o.access * access
 }
 
+#[tactic(auto, unfolding(crate::specs::Round::destinations))]
 fn destinations_of(o: Flows, p: FlowTable) -> Flows
     ensures { result ≡ destinations o p }
 {
@@ -61,6 +62,7 @@ fn factor(b: Flows, p: Flows) -> f64
     b.left * p.left + b.through * p.through + b.right * p.right + b.access * p.access
 }
 
+#[tactic(auto, unfolding(crate::specs::Round::factors_of))]
 fn factors_of(b: Flows, p: FlowTable) -> Flows
     ensures { result ≡ factors_of b p }
 {
@@ -78,6 +80,7 @@ fn difference(x: f64, y: f64) -> f64
     if x < y { y - x } else { x - y }
 }
 
+#[tactic(auto, unfolding(crate::specs::Round::change))]
 fn change_of(new: Flows, old: Flows) -> f64
     ensures { result ≡ change new old }
 {
@@ -94,6 +97,7 @@ fn no_quotient(n: f64, m: f64) -> bool
     (0.0 < n) & (m == 0.0)
 }
 
+#[tactic(auto, unfolding(crate::specs::Round::any_no_quotient))]
 fn any_no_quotient(n: Flows, m: Flows) -> bool
     ensures { result ≡ any_no_quotient n m }
 {
@@ -104,6 +108,7 @@ fn any_no_quotient(n: Flows, m: Flows) -> bool
 }
 
 // The round that starts from the adjusted origins `old`.
+#[tactic(auto, unfolding(crate::specs::Round::round_of))]
 pub fn round_of(o: Flows, d: Flows, p: FlowTable, old: Flows) -> Round
     ensures { result ≡ round_of o d p old }
 {
@@ -122,6 +127,7 @@ pub fn round_of(o: Flows, d: Flows, p: FlowTable, old: Flows) -> Round
 }
 
 // Whether the round stops before its end.
+#[tactic(auto, unfolding(crate::specs::Round::stops))]
 pub fn stops(o: Flows, d: Flows, x: Round) -> bool
     ensures { result ≡ stops o d x }
 {
