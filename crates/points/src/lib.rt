@@ -26,6 +26,7 @@ pub struct Points {
 }
 
 // Whether a point lies on a segment of that running time, and its headway in the record's range.
+#[tactic(auto, unfolding(crate::specs::Points::point_fits))]
 fn point_fits(farthest: u32, p: Point) -> bool
     ensures { result ≡ point_fits farthest p }
 {
