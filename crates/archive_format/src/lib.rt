@@ -40,6 +40,7 @@ pub enum TitlePart {
 }
 
 // The archive with no records.
+#[tactic(auto, unfolding(crate::specs::Archive::encode, crate::specs::Archive::body, crate::specs::Archive::places))]
 pub fn empty() -> [u8; 6]
     ensures { result ≡ encode first_edition [] }
 {
