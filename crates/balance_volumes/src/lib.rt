@@ -14,6 +14,7 @@ fn discharge_float(n: u32) -> f64
     n as f64
 }
 
+#[tactic(auto, unfolding(crate::specs::Volumes::discharge_floats))]
 pub fn discharge_floats(x: Counts) -> Flows
     ensures { result ≡ discharge_floats x }
 {
@@ -31,6 +32,7 @@ fn exit_float(n: u32) -> f64
     n as f64
 }
 
+#[tactic(auto, unfolding(crate::specs::Volumes::exit_floats))]
 pub fn exit_floats(x: Counts) -> Flows
     ensures { result ≡ exit_floats x }
 {
@@ -48,6 +50,7 @@ fn proportion(hundredths: u32) -> f64
     hundredths as f64 / 100.0
 }
 
+#[tactic(auto, unfolding(crate::specs::Volumes::proportion_row))]
 fn proportion_row(x: Counts) -> Flows
     ensures { result ≡ proportion_row x }
 {
@@ -59,6 +62,7 @@ fn proportion_row(x: Counts) -> Flows
     }
 }
 
+#[tactic(auto, unfolding(crate::specs::Volumes::proportions))]
 pub fn proportions(x: Seeds) -> FlowTable
     ensures { result ≡ proportions x }
 {
@@ -76,6 +80,7 @@ fn destination_volume(exit: f64, discharge: f64, exits: f64) -> f64
     exit * discharge / exits
 }
 
+#[tactic(auto, unfolding(crate::specs::Volumes::destination_volumes))]
 pub fn destination_volumes(o: Flows, exits: Flows) -> Flows
     ensures { result ≡ destination_volumes o exits }
 {
