@@ -18,12 +18,14 @@ fn total(x: Counts) -> u64
     wide(x.left) + wide(x.through) + wide(x.right) + wide(x.access)
 }
 
+#[tactic(auto, unfolding(crate::specs::Refusals::no_volume))]
 pub fn no_volume(o: Counts, exits: Counts) -> bool
     ensures { result ≡ no_volume o exits }
 {
     (total(o) == 0) | (total(exits) == 0)
 }
 
+#[tactic(auto, unfolding(crate::specs::Refusals::meets))]
 fn meets(x: Counts, y: Counts) -> bool
     ensures { result ≡ meets x y }
 {
@@ -33,12 +35,14 @@ fn meets(x: Counts, y: Counts) -> bool
         | ((0 < x.access) & (0 < y.access))
 }
 
+#[tactic(auto, unfolding(crate::specs::Refusals::unserved_entry))]
 fn unserved_entry(exits: Counts, o: u32, seeds: Counts) -> bool
     ensures { result ≡ unserved_entry exits o seeds }
 {
     (0 < o) & !meets(exits, seeds)
 }
 
+#[tactic(auto, unfolding(crate::specs::Refusals::unserved_exit))]
 fn unserved_exit(o: Counts, exit: u32, left: u32, through: u32, right: u32, access: u32) -> bool
     ensures { result ≡ unserved_exit o exit (record { left = left; through = through; right = right; access = access }) }
 {
@@ -51,6 +55,7 @@ fn unserved_exit(o: Counts, exit: u32, left: u32, through: u32, right: u32, acce
     (0 < exit) & !meets(o, seeds)
 }
 
+#[tactic(auto, unfolding(crate::specs::Refusals::any_unserved_entry))]
 pub fn any_unserved_entry(o: Counts, exits: Counts, s: Seeds) -> bool
     ensures { result ≡ any_unserved_entry o exits s }
 {
@@ -60,6 +65,7 @@ pub fn any_unserved_entry(o: Counts, exits: Counts, s: Seeds) -> bool
         | unserved_entry(exits, o.access, s.access)
 }
 
+#[tactic(auto, unfolding(crate::specs::Refusals::any_unserved_exit))]
 pub fn any_unserved_exit(o: Counts, exits: Counts, s: Seeds) -> bool
     ensures { result ≡ any_unserved_exit o exits s }
 {
