@@ -1,11 +1,10 @@
 -- The loop that spells a number's digits.
-use Prim.Native.Nat.{ℕ, suc, ◌+◌, ◌-◌, ◌/◌, ◌%◌, ◌≤◌, ◌<◌}
-use native.Mathlib.Omega.{arith}
-use mathlib.Core.Path.{◌≡◌, sym, ◌∙◌}
-use mathlib.Core.List.{List, ◌∷◌, ◌++◌, append_assoc, append-nil}
-use lib.ListN.{length, take, drop, set, length-set, length-drop, drop_of_length-le}
-use lib.Seq.{set_split, drop_at, length-take-le, take_all}
-use borrow.Author.Tests.{eq-eqb, ne_eqb}
+use Rattle.std.specs.Prelude.{ℕ, suc, ◌+◌, ◌-◌, ◌/◌, ◌%◌, ◌≤◌, ◌<◌, ◌≡◌, List, ◌∷◌, ◌++◌, length, take, drop, set}
+use Rattle.std.proofs.Common.{arith, sym, ◌∙◌, append_assoc, length-drop, eq-eqb}
+use Rattle.std.proofs.Math.ListN.{length-set, drop_of_length-le}
+use Rattle.std.proofs.Math.Seq.{set_split, drop_at, length-take-le}
+use Rattle.std.proofs.lemmas.List.{append-nil, take_all}
+use borrow.Author.Tests.{ne_eqb}
 use Rattle.text.specs.Text.{Spelt, decimal, digits}
 
 -- the digits, from the last to the first
