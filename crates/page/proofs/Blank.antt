@@ -1,8 +1,6 @@
 -- The loop over blank lines: the first of those left, and none.
-use Prim.Native.Nat.{ℕ, suc, ◌-◌, ◌≤◌, ◌<◌}
-use native.Mathlib.Omega.{arith}
-use mathlib.Core.Path.{◌≡◌, ap}
-use mathlib.Core.List.{[], ◌++◌}
+use Rattle.std.specs.Prelude.{ℕ, suc, ◌-◌, ◌≤◌, ◌<◌, ◌≡◌, [], ◌++◌}
+use Rattle.std.proofs.Common.{arith, ap}
 use Rattle.page.specs.Page.{blank_lines, line, line_end, lines}
 
 pub blank_first : (left p : ℕ) → 0 < left → blank_lines left ≡ line_end (p - p) ++ blank_lines (left - 1)
