@@ -25,6 +25,7 @@ pub struct Served {
     pub waiting: u64,
 }
 
+#[tactic(auto, unfolding(crate::specs::Discharge::served_of))]
 fn serve(queue: u64, rate: u32) -> Served
     ensures { result ≡ served_of queue rate }
 {
