@@ -1,10 +1,5 @@
 -- The loop over the cycles: its invariant, that it holds at first, that a turn keeps it, and what it says at the end.
-use Prim.Native.Nat.{ℕ, suc, ◌+◌, ◌≤◌, ◌<◌}
-use native.Mathlib.Numerals.{add-one}
-use native.Mathlib.Omega.{arith}
-use mathlib.Core.Path.{◌≡◌, refl, ap, sym, ◌∙◌}
-use mathlib.Core.List.{List}
-use lib.ListN.{length}
+use Rattle.std.proofs.Common.{ℕ, suc, ◌+◌, ◌≤◌, ◌<◌, add-one, arith, ◌≡◌, refl, ap, sym, ◌∙◌, List, length}
 use Rattle.dispersion.specs.declared.PlatoonState.{PlatoonState}
 use Rattle.dispersion.specs.Dispersion.{divisor_of, empty_state, state_after, Work, work, cycle_worked, cycles_worked}
 use Rattle.dispersion.specs.Arrivals.{divisor_pos, state_carry}

@@ -1,9 +1,5 @@
 -- The loop over the cycles in one profile: its invariant, that it holds at first, that a turn keeps it, and what it says at the end.
-use Prim.Native.Nat.{ℕ, zero, suc, ◌+◌, ◌≤◌, ◌<◌}
-use native.Mathlib.Omega.{arith}
-use mathlib.Core.Path.{◌≡◌, refl, ap, sym, ◌∙◌}
-use mathlib.Core.List.{List, ◌++◌}
-use lib.ListN.{length, drop}
+use Rattle.std.proofs.Common.{ℕ, zero, suc, ◌+◌, ◌≤◌, ◌<◌, arith, ◌≡◌, refl, ap, sym, ◌∙◌, List, ◌++◌, length, drop}
 use Rattle.dispersion.specs.declared.PlatoonState.{PlatoonState}
 use Rattle.dispersion.specs.Dispersion.{divisor_of, empty_state, state_after, repeated, reported, held, cycle_written}
 use Rattle.dispersion.specs.Arrivals.{divisor_pos, state_carry}

@@ -19,6 +19,7 @@ pub struct PlatoonState {
 }
 
 // The divisor of the smoothing factor (D of the paper).
+#[tactic(auto, unfolding(crate::specs::Dispersion::divisor_of))]
 fn divisor(running: u32) -> u64
     ensures { result ≡ divisor_of running }
 {
@@ -26,6 +27,7 @@ fn divisor(running: u32) -> u64
 }
 
 // The platoon arrival time in steps (t' of the paper), to the nearest, halves up.
+#[tactic(auto, unfolding(crate::specs::Dispersion::arrival_time_of))]
 pub fn arrival_time(running: u32) -> u32
     ensures { result ≡ arrival_time_of running }
 {
@@ -95,6 +97,7 @@ fn work_cycle(
 
 // How many cycles need working once so many are. Where the last of them left the state in which it began,
 // every later one is the same: as many more as other profiles are to hold it, and the rest need not be worked.
+#[tactic(auto, unfolding(crate::specs::Rest::needed_of, crate::specs::Rest::same_state))]
 fn cycles_needed(
     worked: u32,
     others: u32,
@@ -165,6 +168,7 @@ pub fn first_holds(cycles: u32) -> bool
 }
 
 // The part that holds the last cycle: the first so many steps of the profile that `first_holds` says.
+#[tactic(auto, unfolding(crate::specs::Dispersion::last_part))]
 pub fn last_cycle<'a>(first: &'a [u32], second: &'a [u32], cycles: u32, steps: usize) -> &'a [u32]
     requires { (steps ≤ length first.now) × (steps ≤ length second.now) }
     ensures { result.now ≡ last_part first.now second.now cycles steps }

@@ -1,0 +1,14 @@
+use Rattle.dispersion.proofs.Laws.{disperse_start, disperse_turn, disperse_done}
+use Rattle.dispersion.proofs.disperse.Goals as goal
+
+pub loop-i-init : goal.loop-i-init
+loop-i-init c = disperse_start _ _ _ _ c.requires.carry_bound
+
+pub loop-i-preserved : goal.loop-i-preserved
+loop-i-preserved c = disperse_turn c.loop-i.invariant c.requires.discharge_in_bounds c.loop-i-test.true c.step-state.result c.step-state.ensures
+
+pub returns-clause-value : goal.returns-clause-value
+returns-clause-value c = (disperse_done c.loop-i.invariant c.loop-i-test.false).0
+
+pub returns-clause-profile_after : goal.returns-clause-profile_after
+returns-clause-profile_after c = (disperse_done c.loop-i.invariant c.loop-i-test.false).1

@@ -1,0 +1,39 @@
+-- What a step makes is below 2^32·D, so that every number of it fits.
+use Rattle.std.proofs.Common.{arith}
+use Rattle.dispersion.specs.Dispersion.{step_of}
+use Rattle.dispersion.proofs.Laws.{step_numbers, level_made, both_made, all_made, arrival_lt, remainder_lt}
+use Rattle.dispersion.proofs.step.Goals as goal
+
+pub overflow_sub-made : goal.overflow_sub-made
+overflow_sub-made c =
+    let s = step_numbers 657500 c.args.running _ c.args.discharge c.args.state.level c.args.state.carry (omega arith) c.divisor-d.ensures
+    c.requires.running_le_most_running (omega arith) (omega arith) c.requires.carry_bound in omega (arith, s.low)
+
+pub overflow_mul-made-2 : goal.overflow_mul-made-2
+overflow_mul-made-2 c =
+    let s = step_numbers 500000 c.args.running _ c.args.discharge c.args.state.level c.args.state.carry (omega arith) c.divisor-d.ensures
+    c.requires.running_le_most_running (omega arith) (omega arith) c.requires.carry_bound in record { fits = level_made s }
+
+pub overflow_add-made : goal.overflow_add-made
+overflow_add-made c =
+    let s = step_numbers 500000 c.args.running _ c.args.discharge c.args.state.level c.args.state.carry (omega arith) c.divisor-d.ensures
+    c.requires.running_le_most_running (omega arith) (omega arith) c.requires.carry_bound in record { fits = both_made s }
+
+pub overflow_add-made-2 : goal.overflow_add-made-2
+overflow_add-made-2 c =
+    let s = step_numbers 500000 c.args.running _ c.args.discharge c.args.state.level c.args.state.carry (omega arith) c.divisor-d.ensures
+    c.requires.running_le_most_running (omega arith) (omega arith) c.requires.carry_bound in record { fits = all_made s c.args.state.carry (omega arith) }
+
+pub overflow_cast-result : goal.overflow_cast-result
+overflow_cast-result c =
+    let s = step_numbers 500000 c.args.running _ c.args.discharge c.args.state.level c.args.state.carry (omega arith) c.divisor-d.ensures
+    c.requires.running_le_most_running (omega arith) (omega arith) c.requires.carry_bound in record { fits = arrival_lt s }
+
+pub overflow_cast-result-2 : goal.overflow_cast-result-2
+overflow_cast-result-2 c =
+    let s = step_numbers 657500 c.args.running _ c.args.discharge c.args.state.level c.args.state.carry (omega arith) c.divisor-d.ensures
+    c.requires.running_le_most_running (omega arith) (omega arith) c.requires.carry_bound in record { fits = remainder_lt _ _ (omega (arith, s.low)) s.high }
+
+pub returns : goal.returns
+unfolding step_of
+returns c = rw c.divisor-d.ensures
