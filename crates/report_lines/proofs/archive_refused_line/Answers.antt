@@ -1,0 +1,8 @@
+-- What the calls wrote, one after another, is the line: the field of the refusal and its end.
+use Rattle.buffer.specs.Pieces.{◌then◌}
+use Rattle.report_lines.specs.Lines.{archive_refused_line}
+use Rattle.report_lines.proofs.archive_refused_line.Goals as goal
+
+pub returns : goal.returns
+unfolding archive_refused_line
+returns c = search ◌then◌

@@ -1,0 +1,8 @@
+-- What the calls wrote, one after another, is the line: its two fields and its end.
+use Rattle.buffer.specs.Pieces.{◌then◌}
+use Rattle.report_lines.specs.Lines.{blocked_line}
+use Rattle.report_lines.proofs.blocked_line.Goals as goal
+
+pub returns : goal.returns
+unfolding blocked_line
+returns c = search ◌then◌

@@ -1,0 +1,8 @@
+-- What the calls wrote, one after another, is the line: its words and its end.
+use Rattle.buffer.specs.Pieces.{◌then◌}
+use Rattle.report_lines.specs.Lines.{exit_line}
+use Rattle.report_lines.proofs.exit_line.Goals as goal
+
+pub returns : goal.returns
+unfolding exit_line
+returns c = search ◌then◌
