@@ -36,6 +36,7 @@ fn cell(oa: f64, b: f64, p: f64) -> f64
     oa * b * p
 }
 
+#[tactic(auto, unfolding(crate::specs::Settling::cell_row))]
 fn cell_row(oa: f64, b: Flows, p: Flows) -> Flows
     ensures { result ≡ cell_row oa b p }
 {
@@ -47,6 +48,7 @@ fn cell_row(oa: f64, b: Flows, p: Flows) -> Flows
     }
 }
 
+#[tactic(auto, unfolding(crate::specs::Settling::cells_of))]
 fn cells_of(origins: Flows, b: Flows, p: FlowTable) -> FlowTable
     ensures { result ≡ cells_of origins b p }
 {
@@ -86,6 +88,7 @@ fn unsettled(sum: f64, rounds: u32) -> Balance
 }
 
 // A cell that is not finite counts as unsettled.
+#[tactic(auto, unfolding(crate::specs::Settling::closed))]
 fn closed(cells: FlowTable, sum: f64, rounds: u32) -> Balance
     ensures { result ≡ closed cells sum rounds }
 {
@@ -100,6 +103,7 @@ fn closed(cells: FlowTable, sum: f64, rounds: u32) -> Balance
 }
 
 // What stands before the first round.
+#[tactic(auto, unfolding(crate::specs::Settling::start))]
 fn start(o: Flows) -> Round
     ensures { result ≡ start o }
 {
@@ -137,6 +141,7 @@ fn settle(o: Flows, d: Flows, p: FlowTable) -> Balance
 }
 
 // The settling of whole volumes: discharge of the entries, exit volumes, seeds in hundredths.
+#[tactic(auto, unfolding(crate::specs::Settling::balanced))]
 pub fn balanced(o: Counts, exits: Counts, seeds: Seeds) -> Balance
     ensures { result ≡ balanced o exits seeds }
 {
