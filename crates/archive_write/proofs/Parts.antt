@@ -1,10 +1,7 @@
 -- The parts of an archive, as they are put one after another.
-use Prim.Native.Nat.{ℕ, ◌+◌, ◌*◌, ◌-◌, ◌/◌, ◌%◌, ◌≤◌, ◌<◌}
-use native.Mathlib.Nat.{sub-zero, mod-eq_of_lt}
-use native.Mathlib.Omega.{arith}
-use mathlib.Core.Path.{◌≡◌, ◌∙◌}
-use mathlib.Core.List.{List, [], ◌∷◌, ◌++◌, append_assoc}
-use lib.ListN.{length, take, drop, length-append, length-take}
+use Rattle.std.specs.Prelude.{ℕ, ◌+◌, ◌*◌, ◌-◌, ◌%◌, ◌≤◌, ◌<◌, ◌≡◌, List, [], ◌∷◌, ◌++◌, length, take, drop}
+use Rattle.std.proofs.Common.{arith, ◌∙◌, append_assoc, mod-eq_of_lt, length-append, length-take}
+use Rattle.std.proofs.Math.Nat.{sub-zero}
 use Rattle.octets.specs.Octets.{bytes2}
 use Rattle.buffer.specs.Buffer.{Wrote}
 use Rattle.buffer.specs.Pieces.{◌then◌, wrote_fits}
@@ -18,15 +15,6 @@ pub record_put : (b ti : List ℕ) {d : List ℕ} {at : ℕ} {o1 : List ℕ} {a1
 record_put b ti {n = n} short en w1 w2 w3 =
     let whole : n ≡ length ti = en ∙ mod-eq_of_lt short in
     rw (append_assoc b (n ∷ []) ti, whole) at (w1 then w2 then w3)
-
-pub place_put : (p : ℕ) {d : List ℕ} {at x1 x2 : ℕ} {o : List ℕ} {a : ℕ} → x1 ≡ p % 256 → x2 ≡ p / 256
-    → Wrote d at (x1 ∷ x2 ∷ []) o a → Wrote d at (bytes2 p) o a
-place_put p e1 e2 w = rw (e1, e2) at w
-
-pub end_put : (e : Edition) (count t : ℕ) {d : List ℕ} {at x1 x2 x3 x4 : ℕ} {o : List ℕ} {a : ℕ}
-    → x1 ≡ count % 256 → x2 ≡ count / 256 → x3 ≡ t % 256 → x4 ≡ t / 256
-    → Wrote d at (x1 ∷ x2 ∷ x3 ∷ x4 ∷ e.first ∷ e.second ∷ []) o a → Wrote d at (end_bytes e count t) o a
-end_put e count t e1 e2 e3 e4 w = rw (e1, e2, e3, e4) at w
 
 -- ---- the whole, in five
 
