@@ -1,14 +1,16 @@
 // Support of the test programs: cases of a vector file from standard input, and what is said of them. docs/VECTORS.md has the format.
 #![tactic(auto)]
 
-ghost use Rattle.std.specs.Prelude.{◌≡◌, ◌+◌, ◌-◌, ◌*◌, ◌≤◌, ◌<◌, ◌^◌, length, drop};
+ghost use Rattle.std.specs.Prelude.{◌≡◌, ◌+◌, ◌-◌, ◌*◌, ◌≤◌, ◌<◌, ◌^◌, length, take, drop, IfOk};
+ghost use Rattle.std.specs.Io.KnownBytes.{Appends};
 ghost use Rattle.std.specs.Float.{binary64};
 ghost use Rattle.std.specs.Float.Ieee.{to_bits};
 ghost use Rattle.octets.specs.Octets.{word4};
 ghost use Rattle.buffer.specs.Buffer.{Wrote};
 ghost use Rattle.vectors.specs.Vectors.{byte_pattern, closing_line, float_differs, pattern, profile_differs, rows_differ, words_differ};
 
-use libc::{STDIN_FILENO, STDOUT_FILENO};
+use std::io;
+use std::io::{Read, Write};
 
 // Each lent profile holds the numbers from its own on.
 pub const OUTPUT_FROM: u32 = 3000000000;
@@ -19,40 +21,53 @@ pub const SECOND_FROM: u32 = 3200000000;
 
 pub const PASSING_FROM: u32 = 3300000000;
 
-// The next four bytes of the input, to the front of a lent buffer, as a number.
-pub fn read_word(word: &mut [u8]) -> u32
-    requires { 4 ≤ length word.old }
-    ensures { result ≡ word4 word.new 0 }
+// Reads until a buffer is full or the input ends, and answers how many bytes were read.
+fn read_full<R: Read>(input: &mut R, buffer: &mut [u8]) -> io::Result<usize>
+    ensures { IfOk result (λ n. n ≤ length buffer.new) }
 {
-    io::read_full(STDIN_FILENO, &mut word[0..4]);
-    octets::word4_at(&word[..], 0)
+    let mut n = 0;
+    while n < buffer.len() {
+        let more = input.read(&mut buffer[n..])?;
+        if more == 0 {
+            return Ok(n);
+        }
+        n += more;
+    }
+    Ok(n)
+}
+
+// The next four bytes of the input, to the front of a lent buffer, as a number.
+pub fn read_word<R: Read>(input: &mut R, word: &mut [u8]) -> io::Result<u32>
+    requires { 4 ≤ length word.old }
+    ensures { IfOk result (λ n. n ≡ word4 word.new 0) }
+{
+    read_full(input, &mut word[0..4])?;
+    Ok(octets::word4_at(&word[..], 0))
 }
 
 // The body of the next case, in the front of a buffer: no more than fits. What is read no contract can say.
-pub fn read_case(body: &mut [u8]) -> usize
-    ensures { result ≤ length body.new }
+pub fn read_case<R: Read>(input: &mut R, body: &mut [u8]) -> io::Result<usize>
+    ensures { IfOk result (λ n. n ≤ length body.new) }
 {
     let mut word = [0u8; 4];
-    let n = read_word(&mut word) as usize;
+    let n = read_word(input, &mut word)? as usize;
     if body.len() < n {
-        return 0;
+        return Ok(0);
     }
-    let got = io::read_full(STDIN_FILENO, &mut body[0..n]);
+    let got = read_full(input, &mut body[0..n])?;
     if got < n {
-        return 0;
+        return Ok(0);
     }
-    n
+    Ok(n)
 }
 
 // Says that a case differs, and returns one more than the number that did before.
-pub fn differing(i: u32, before: u32) -> u32
+pub fn differing<W: Write>(output: &mut W, i: u32, before: u32) -> io::Result<u32>
     requires { before < 2 ^ 32 - 1 }
-    ensures { result ≡ before + 1 }
+    ensures { IfOk result (λ n. n ≡ before + 1) }
 {
-    io::write_all(STDOUT_FILENO, b"case ");
-    io::print_decimal(STDOUT_FILENO, i as u64);
-    io::write_all(STDOUT_FILENO, b" differs\n");
-    before + 1
+    writeln!(output, "case {i} differs")?;
+    Ok(before + 1)
 }
 
 // How many cases there were and how many of them differ, in the front of a lent buffer; the length is handed back.
@@ -65,12 +80,18 @@ fn closing_line(line: &mut [u8], cases: u32, differing: u32) -> usize
 }
 
 // Writes the closing line, and leaves it in the lent buffer.
-pub fn finish(line: &mut [u8], cases: u32, differing: u32) -> usize
-    ensures { Wrote line.old 0 (closing_line cases differing) line.new result }
+pub fn finish<W: Write>(
+    output: &mut W,
+    line: &mut [u8],
+    cases: u32,
+    differing: u32,
+) -> io::Result<usize>
+    ensures held { IfOk result (λ n. Wrote line.old 0 (closing_line cases differing) line.new n) }
+    ensures written { IfOk result (λ n. Appends (W.contents output.old) (W.contents output.new) (take n line.new)) }
 {
     let n = closing_line(line, cases, differing);
-    io::write_all(STDOUT_FILENO, &line[..n]);
-    n
+    output.write_all(&line[..n])?;
+    Ok(n)
 }
 
 // A profile as it is lent: place i holds first + i.
