@@ -3,8 +3,9 @@
 use Rattle.std.proofs.Common.{◌≡◌, ℕ, ◌+◌, ◌-◌, ◌*◌, ◌/◌, ◌^◌, ◌<◌, ◌≤◌, min, true, false, pos, sym, refl, true≢false, le-div_iff_mul-le, arith, ltb-false}
 use mathlib.Core.Bool.{false≢true}
 use native.Mathlib.Nat.{zero-min}
-use lib.Ieee.{Float, nan, inf, fin, up, down, lt, to_unsigned}
-use lib.Ieee.Fits.{down_pos}
+use Rattle.std.specs.Float.{Float, nan, inf, fin}
+use Rattle.std.specs.Float.Ieee.{up, down, lt, to_unsigned}
+use Rattle.std.specs.Float.Ieee.Fits.{down_pos}
 use Rattle.balance_pairs.specs.Pairs.{limited}
 
 -- a cap above the other cap is none

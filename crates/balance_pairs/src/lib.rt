@@ -38,6 +38,7 @@ fn pair_row(cells: Flows, all: u32) -> [u32; 4]
 }
 
 // Filled row by row.
+#[tactic(auto, unfolding(crate::specs::Pairs::pair_rows))]
 pub fn pair_rows(cells: FlowTable, o: Counts) -> [[u32; 4]; 4]
     requires { WithinLimit o }
     ensures { result ≡ pair_rows cells o }
