@@ -1,9 +1,5 @@
 -- The loops that add arrivals to a run where their steps land: what they keep, whatever is added of each arrival.
-use Prim.Native.Nat.{ℕ, ◌+◌, ◌-◌, ◌^◌, ◌≤◌, ◌<◌}
-use native.Mathlib.Omega.{arith}
-use mathlib.Core.Path.{◌≡◌, ap, ◌∙◌}
-use mathlib.Core.List.{List, ◌∷◌}
-use lib.ListN.{length, set, get_or}
+use Rattle.std.proofs.Common.{ℕ, ◌+◌, ◌-◌, ◌^◌, ◌≤◌, ◌<◌, arith, ◌≡◌, ap, ◌∙◌, List, ◌∷◌, length, set, get_or}
 use Rattle.signal.specs.Turn.{turn, turn_pos, turn_le, turn_next}
 use Rattle.signal.specs.Adding.{Adding, adding_start, place_within, place_clear, adding_turn}
 use Rattle.arrivals.specs.Arrivals.{arrival_limit, LandsFit}

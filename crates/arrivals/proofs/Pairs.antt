@@ -1,11 +1,6 @@
 -- The loop that adds a pair's arrivals to a run.
-use Prim.Native.Nat.{ℕ, zero, suc, ◌+◌, ◌-◌, ◌^◌, ◌≤◌, ◌<◌}
-use native.Mathlib.Omega.{arith}
-use native.Mathlib.Numerals.{add-one}
-use mathlib.Core.Path.{◌≡◌, refl, ap, sym, ◌∙◌}
-use mathlib.Core.List.{List}
-use lib.ListN.{length, drop, set, get_or, replicate, drop_of_length-le}
-use lib.Seq.{drop-cons, set-get_or}
+use Rattle.std.proofs.Common.{ℕ, zero, suc, ◌+◌, ◌-◌, ◌^◌, ◌≤◌, ◌<◌, arith, add-one, ◌≡◌, refl, ap, sym, ◌∙◌, List, length, drop, set, get_or, replicate, drop_of_length-le, drop-cons}
+use Rattle.std.proofs.Math.Seq.{set-get_or}
 use Rattle.signal.specs.Turn.{turn}
 use Rattle.signal.specs.Landing.{added}
 use Rattle.signal.specs.Adding.{adding_done}
