@@ -32,6 +32,10 @@ found_true b t e h = sym e ∙ not-false b h
 pub found_false : (b t : Bool) → b ≡ t → not b ≡ true → t ≡ false
 found_false b t e h = sym e ∙ not-true b h
 
+-- the value of a call's test is the test's
+pub found : (b t v : Bool) → b ≡ t → b ≡ v → t ≡ v
+found b t v e h = sym e ∙ h
+
 -- a call's own tests come after the record's
 module _ (l : List ℕ) (own : Segment → List Test) (checked : Checked) (is : checked ≡ checked_of (check_of l)) where
   pub accept_refused : (n : ℕ) → checked ≡ Refused n → Refused n ≡ checked_of (accept_with l own)
@@ -42,4 +46,4 @@ module _ (l : List ℕ) (own : Segment → List Test) (checked : Checked) (is : 
   unfolding accept_with
   accept_valid r s e h = rw (checked_valid (check_of l) s (sym is ∙ e)) h
 
-pub ruleset ladder = (of_segment, passes, fails, found_true, found_false, eq-eqb, ne_eqb, le-leb, lt-leb, accept_refused, accept_valid)
+pub ruleset ladder = (of_segment, passes, fails, found_true, found_false, found, eq-eqb, ne_eqb, le-leb, lt-leb, accept_refused, accept_valid)
