@@ -1,9 +1,6 @@
 -- The calls' answers, by what opening answered.
-use Prim.Native.Nat.{ℕ, ◌+◌, ◌*◌, ◌-◌, ◌≤◌, ◌<◌}
-use native.Mathlib.Omega.{arith}
-use mathlib.Core.Path.{◌≡◌, sym, ◌∙◌}
-use mathlib.Core.List.{List, []}
-use lib.ListN.{length, take, drop, get_or}
+use Rattle.std.specs.Prelude.{ℕ, ◌+◌, ◌*◌, ◌-◌, ◌≤◌, ◌<◌, ◌≡◌, List, [], length, take, drop, get_or}
+use Rattle.std.proofs.Common.{arith, sym, ◌∙◌}
 use Rattle.refusal.specs.Refusal.{Or, refused, ok, false_true}
 use Rattle.octets.specs.Octets.{word2}
 use Rattle.archive_format.specs.declared.Edition.{Edition}
