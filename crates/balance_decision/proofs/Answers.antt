@@ -1,8 +1,7 @@
 -- The decision by the tests and the settling that led to it.
 -- Assumes nothing.
-use mathlib.Core.Bool.{Bool, true, false, ◌||◌}
-use mathlib.Core.Path.{◌≡◌}
-use lib.Ieee.{Float}
+use Rattle.std.proofs.Common.{◌≡◌, Bool, true, false, ◌||◌}
+use Rattle.std.specs.Float.{Float}
 use Rattle.refusal.specs.Refusal.{need}
 use Rattle.movements.specs.declared.Counts.{Counts}
 use Rattle.movements.specs.declared.Seeds.{Seeds}
