@@ -1,7 +1,6 @@
 -- A record's text by the outcome of its working.
-use Prim.Native.Nat.{ℕ}
-use mathlib.Core.Path.{◌≡◌, ap, sym, ◌∙◌}
-use mathlib.Core.List.{List}
+use Rattle.std.specs.Prelude.{ℕ, ◌≡◌, List}
+use Rattle.std.proofs.Common.{ap, sym, ◌∙◌}
 use Rattle.buffer.specs.Buffer.{cursor, put, Wrote}
 use Rattle.balance_decision.specs.declared.Outcome.{Outcome}
 use Rattle.working_outcome.specs.declared.Working.{Working}

@@ -1,13 +1,9 @@
 -- The rows of a run, the next of those left and none; and the page from its parts.
-use Prim.Native.Nat.{ℕ, suc, ◌+◌, ◌-◌, ◌*◌, ◌≤◌, ◌<◌, min}
-use native.Mathlib.Omega.{arith}
-use mathlib.Core.Bool.{Bool, true, false}
-use mathlib.Core.Path.{◌≡◌, refl, sym, ◌∙◌, ap}
-use mathlib.Core.List.{List, [], ◌++◌}
-use lib.Dec.{leb}
-use lib.ListN.{length, take, drop, length-append, length-drop, drop_of_length-le}
-use lib.Seq.{drop-drop, take_all, length-take-le}
-use borrow.Author.Tests.{leb-true, leb-false}
+use Rattle.std.specs.Prelude.{ℕ, suc, ◌+◌, ◌-◌, ◌*◌, ◌≤◌, ◌<◌, min, Bool, true, false, ◌≡◌, refl, List, [], ◌++◌, length, take, drop, leb}
+use Rattle.std.proofs.Common.{arith, sym, ◌∙◌, ap, length-append, length-drop, drop-drop, leb-true, leb-false}
+use Rattle.std.proofs.Math.ListN.{drop_of_length-le}
+use Rattle.std.proofs.Math.Seq.{length-take-le}
+use Rattle.std.proofs.lemmas.List.{take_all}
 use Rattle.buffer.specs.Buffer.{Wrote}
 use Rattle.buffer.specs.Pieces.{◌then◌}
 use Rattle.working_outcome.specs.declared.Working.{Working}

@@ -1,0 +1,10 @@
+-- The columns, and the line's end by the places that they took.
+use Rattle.buffer.specs.Pieces.{wrote_on}
+use Rattle.page.specs.Laws.{line_ended}
+use Rattle.sheet_page.proofs.columns_line.Goals as goal
+
+pub end_line-requires : goal.end_line-requires
+end_line-requires c = wrote_on c.append_columns-p.ensures
+
+pub returns : goal.returns
+returns c = line_ended c.append_columns-p.ensures c.end_line.ensures

@@ -1,0 +1,11 @@
+-- What the four calls wrote, one after another, are the lines.
+use Rattle.std.proofs.Common.{append_assoc, append-nil}
+use Rattle.buffer.specs.Pieces.{◌then◌}
+use Rattle.page.specs.Page.{lines}
+use Rattle.sheet_page.proofs.pair_lines.Goals as goal
+
+pub returns : goal.returns
+unfolding lines
+returns c =
+    let signalised = c.pair_line-p.ensures then c.pair_line-p-2.ensures then c.pair_line-p-3.ensures in
+    rw append-nil (simp append_assoc at (signalised then c.pair_line.ensures))

@@ -1,0 +1,13 @@
+-- The record's line, and blank lines.
+use Rattle.buffer.specs.Pieces.{◌then◌, wrote_on}
+use Rattle.page.specs.Page.{page}
+use Rattle.page.specs.Laws.{line_ended, line_alone}
+use Rattle.sheet_page.specs.SheetPage.{refused_page}
+use Rattle.sheet_page.proofs.refused_page.Goals as goal
+
+pub end_line-p-requires : goal.end_line-p-requires
+end_line-p-requires c = wrote_on c.refused_words-p.ensures
+
+pub returns : goal.returns
+unfolding refused_page page
+returns c = rw line_alone (line_ended c.refused_words-p.ensures c.end_line-p.ensures then c.end_page.ensures)
