@@ -27,20 +27,16 @@ module _ (o : Counts) (b : Balance) (x : Float) where
   unsettled_is e = rw e
 
 -- what the code found of the two refusals
-pub record Tested (o exits : Counts) (s : Seeds) (empty entry exit : Bool) : Type 0 where
-  pub no_volume_lem : empty ≡ no_volume o exits
-  pub unserved_entry_lem : entry ≡ any_unserved_entry o exits s
-  pub unserved_exit_lem : exit ≡ any_unserved_exit o exits s
-
-module _ {o exits : Counts} {s : Seeds} {empty entry exit : Bool} (t : Tested o exits s empty entry exit) where
+module _ (o exits : Counts) (s : Seeds) {empty entry exit : Bool}
+    (volume : empty ≡ no_volume o exits) (of_entry : entry ≡ any_unserved_entry o exits s) (of_exit : exit ≡ any_unserved_exit o exits s) where
   pub at13 : empty ≡ true → undecided (Refused 13) ≡ decision_of o exits s
   unfolding decision_of need
-  at13 e = rw (← t.no_volume_lem, e)
+  at13 e = rw (← volume, e)
 
   pub at14 : empty ≡ false → (entry || exit) ≡ true → undecided (Refused 14) ≡ decision_of o exits s
   unfolding decision_of need
-  at14 e u = rw (← t.no_volume_lem, ← t.unserved_entry_lem, ← t.unserved_exit_lem, e, u)
+  at14 e u = rw (← volume, ← of_entry, ← of_exit, e, u)
 
   pub balances : empty ≡ false → (entry || exit) ≡ false → settled_to o (balanced o exits s) ≡ decision_of o exits s
   unfolding decision_of need
-  balances e u = rw (← t.no_volume_lem, ← t.unserved_entry_lem, ← t.unserved_exit_lem, e, u)
+  balances e u = rw (← volume, ← of_entry, ← of_exit, e, u)
