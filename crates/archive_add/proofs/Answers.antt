@@ -1,15 +1,9 @@
 -- Adding's answers, by what opening answered and by each test in turn.
-use Prim.Native.Nat.{ℕ, ◌+◌, ◌*◌, ◌≤◌, ◌<◌}
-use native.Mathlib.Nat.{mul-le-mul, zero-add}
-use native.Mathlib.Omega.{arith}
-use mathlib.Core.Path.{◌≡◌, sym, ap, ◌∙◌}
-use mathlib.Core.Bool.{Bool, true}
-use mathlib.Core.List.{List, [], ◌∷◌, ◌++◌, append_assoc, append-nil}
-use lib.Dec.{leb, ltb}
-use lib.ListN.{length, take, drop, length-append}
-use lib.Seq.{take_at}
-use borrow.Author.Tests.{leb-true, eq-eqb, ne_eqb}
+use Rattle.std.specs.Prelude.{ℕ, ◌+◌, ◌*◌, ◌≤◌, ◌<◌, ◌≡◌, Bool, true, List, [], ◌∷◌, ◌++◌, leb, ltb, length, take, drop}
+use Rattle.std.proofs.Common.{arith, sym, ap, ◌∙◌, zero-add, append_assoc, append-nil, length-append, take_at, leb-true, ltb-true, eq-eqb, ne_eqb}
+use Rattle.std.proofs.Math.Nat.{mul-le-mul}
 use Rattle.refusal.specs.Refusal.{refused, ok, need, both}
+use Rattle.refusal.specs.Peel.{Tested, Peeled, peel, ◌past◌, held_before}
 use Rattle.octets.specs.Octets.{word4, bytes2, word2_bound}
 use Rattle.archive_format.specs.declared.Edition.{Edition}
 use Rattle.archive_format.specs.declared.Answer.TheVariants.{Value, Refused}
@@ -130,9 +124,34 @@ module _ (e : Edition) (l b ti : List ℕ) where
       unfolding add_of add_to need
       add_tests room ef en = rw (h.is, eq-eqb _ _ sized, ← h.last_is, more_length_lem e l h b ti sized, ← counted e l h, ← grown_is e l h b ti hb, ef, en)
 
+      -- the four tests peeled off in order; behind them is what is written
+      pub add_tested : (room : ℕ) {fits : Bool} {number : ℕ} → fits ≡ title_fits ti → number ≡ word4 b 0 → {m1 m2 m3 m4 : ℕ}
+          → Tested 0 fits 4 m1 → Tested m1 (ltb last number) 5 m2 → Tested m2 (leb (more_length e.size count t (length ti)) room) 17 m3
+          → Tested m3 (ltb count record_limit) 18 m4 → Peeled (add_of e l b ti room) m4 (ok (grown e l count t b ti))
+      add_tested room ef en t1 t2 t3 t4 = peel (add_tests room ef en) past t1 past t2 past t3 past t4
+
       pub add_done : (out : List ℕ) → more_length e.size count t (length ti) ≤ length out → add_of e l b ti (length out) ≡ ok (grown e l count t b ti)
           → {r : ℕ} {out' : List ℕ} → Wrote out 0 (grown e l count t b ti) out' r → Adds e l b ti out (Value r) out'
       add_done out room y w =
           let long : length (grown e l count t b ti) ≡ more_length e.size count t (length ti) = rw (grown_is e l h b ti hb) (more_length_lem e l h b ti sized) in
           let f : _ = wrote_fits w (omega (arith, long)) in
           record { answer = rw y (ap (λ (z : ℕ). Value z) (f.1 ∙ zero-add (length (grown e l count t b ti)))); buffer = rw y (f.0 ∙ rw zero-add) }
+
+-- where none of the four tests failed: what `grow` asks, from the last test to the first
+pub record Passed (size count t title room : ℕ) : Type 0 where
+  pub few : count < record_limit
+  pub enough : more_length size count t title ≤ room
+  pub short : title ≤ title_limit
+
+pub passed : (size count t room : ℕ) (ti : List ℕ) {fits above : Bool} → fits ≡ title_fits ti → {m1 m2 m3 m4 : ℕ}
+    → Tested 0 fits 4 m1 → Tested m1 above 5 m2 → Tested m2 (leb (more_length size count t (length ti)) room) 17 m3
+    → Tested m3 (ltb count record_limit) 18 m4 → m4 ≡ 0 → Passed size count t (length ti) room
+passed size count t room ti ef t1 t2 t3 t4 z =
+    let p4 = held_before t4 z in
+    let p3 = held_before t3 p4.0 in
+    let p2 = held_before t2 p3.0 in
+    record {
+      few = ltb-true _ _ p4.1;
+      enough = leb-true _ _ p3.1;
+      short = short_title ti (sym ef ∙ (held_before t1 p2.0).1);
+    }
