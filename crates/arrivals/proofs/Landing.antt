@@ -1,17 +1,14 @@
 -- The loops that add arrivals to a run where their steps land: what they keep, whatever is added of each arrival.
-use Rattle.std.proofs.Common.{ℕ, ◌+◌, ◌-◌, ◌^◌, ◌≤◌, ◌<◌, arith, ◌≡◌, ap, ◌∙◌, List, ◌∷◌, length, set, get_or}
+use Rattle.std.proofs.Common.{ℕ, ◌+◌, ◌-◌, ◌≤◌, ◌<◌, arith, ◌≡◌, ap, ◌∙◌, List, ◌∷◌, length, set, get_or}
 use Rattle.signal.specs.Turn.{turn, turn_pos, turn_le, turn_next}
-use Rattle.signal.specs.Adding.{Adding, adding_start, place_within, place_clear, adding_turn}
-use Rattle.arrivals.specs.Arrivals.{arrival_limit, LandsFit}
+use Rattle.signal.specs.Adding.{Adding, place_within, adding_turn}
+use Rattle.arrivals.specs.Arrivals.{LandsFit}
 
 -- i arrivals are done, and what is left of all that they bring is to come; the next one lands in step `lands`
 pub record Landing (t : ℕ) (arrived all left run₀ run : List ℕ) (lands i : ℕ) : Type 0 where
   pub within : i ≤ length arrived
   pub place : lands ≡ turn (length run₀) (i + 1 + t)
   pub adding : Adding t all left run₀ run i
-
-pub landing_start : (t : ℕ) (arrived all run : List ℕ) {lands : ℕ} → lands ≡ turn (length run) (1 + t) → Landing t arrived all all run run lands 0
-landing_start t arrived all run e = record { within = omega arith; place = e; adding = adding_start _ _ _ }
 
 module _ {t : ℕ} {arrived all left run₀ run : List ℕ} {lands i : ℕ} (r : Landing t arrived all left run₀ run lands i) (a : LandsFit t arrived run₀) where
   -- the step that it lands in is one of the cycle
@@ -27,9 +24,6 @@ module _ {t : ℕ} {arrived all left run₀ run : List ℕ} {lands i : ℕ} (r :
 
     pub at_within : at < length run
     at_within = place_within r.adding in_cycle r.place e
-
-    pub sum_fits : {p : ℕ} → p ≤ arrival_limit → get_or run at 0 + p < 2 ^ 32
-    sum_fits h = rw (place_clear r.adding in_cycle r.place e) (omega (arith, a.small at))
 
     pub landing_turn : {p : ℕ} {ps : List ℕ} → left ≡ p ∷ ps → {after : ℕ} → after ≡ turn (length run₀) (lands + 1) →
         Landing t arrived all ps run₀ (set run at (get_or run at 0 + p)) after (i + 1)

@@ -1,32 +1,23 @@
 -- The loop that adds a pair's arrivals to a run.
-use Rattle.std.proofs.Common.{ℕ, zero, suc, ◌+◌, ◌-◌, ◌^◌, ◌≤◌, ◌<◌, arith, add-one, ◌≡◌, refl, ap, sym, ◌∙◌, List, length, drop, set, get_or, replicate, drop_of_length-le, drop-cons}
+use Rattle.std.proofs.Common.{ℕ, zero, suc, ◌+◌, ◌-◌, ◌≤◌, ◌<◌, arith, add-one, ◌≡◌, refl, ap, sym, ◌∙◌, List, length, drop, set, get_or, replicate, drop_of_length-le, drop-cons}
 use Rattle.std.proofs.Math.Seq.{set-get_or}
 use Rattle.signal.specs.Turn.{turn}
 use Rattle.signal.specs.Landing.{added}
 use Rattle.signal.specs.Adding.{adding_done}
 use Rattle.pair_parts.specs.PairParts.{part_of, rest_of, parts, pair_arrivals}
-use Rattle.pair_parts.specs.Laws.{part_le, rest_lt, pair_parts, pair_without}
+use Rattle.pair_parts.specs.Laws.{rest_lt, pair_parts, pair_without}
 use Rattle.arrivals.specs.declared.Part.{Part}
 use Rattle.arrivals.specs.Arrivals.{PairFits}
-use Rattle.arrivals.proofs.Landing.{Landing, landing_start, sum_fits, landing_turn}
+use Rattle.arrivals.proofs.Landing.{Landing, landing_turn}
 
 -- the parts of i arrivals added, those of the rest to come; the carry is below the divisor
 pub record AddingPair (arrived : List ℕ) (v w t : ℕ) (run₀ run : List ℕ) (lands carry i : ℕ) : Type 0 where
   pub carried : carry < w
   pub landing : Landing t arrived (parts v w 0 arrived) (parts v w carry (drop i arrived)) run₀ run lands i
 
-pub pair_start : (arrived : List ℕ) (v w t : ℕ) (run : List ℕ) → (v ≡ 0 → ⊥) → v ≤ w → {lands : ℕ} → lands ≡ turn (length run) (1 + t) →
-    AddingPair arrived v w t run run lands 0 0
-pair_start arrived v w t run h share e = record { carried = omega arith; landing = landing_start _ _ _ _ e }
-
 module _ {arrived : List ℕ} {v w t : ℕ} {run₀ run : List ℕ} {lands carry i : ℕ} (r : AddingPair arrived v w t run₀ run lands carry i)
     (a : PairFits v w t arrived run₀) (more : i < length arrived) {at : ℕ} (e : at ≡ lands - 1) {p : Part}
     (is : (p.flow ≡ part_of v w carry (get_or arrived i 0)) × (p.carry ≡ rest_of v w carry (get_or arrived i 0))) where
-  pub part_fits : get_or run at 0 + p.flow < 2 ^ 32
-  part_fits =
-      sum_fits r.landing a.lands more e
-      (omega (arith, is.0, part_le v w carry (get_or arrived i 0) a.share r.carried, a.lands.arrivals i))
-
   pub pair_turn : {after : ℕ} → after ≡ turn (length run₀) (lands + 1) →
       AddingPair arrived v w t run₀ (set run at (get_or run at 0 + p.flow)) after p.carry (i + 1)
   unfolding parts
