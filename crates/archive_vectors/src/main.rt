@@ -4,6 +4,8 @@
 ghost use Rattle.std.specs.Prelude.{◌<◌};
 
 use archive_format::Answer;
+use std::io;
+use std::io::Read;
 
 // ---- the parts of a body; a part that lies beyond it is empty, and a number there the largest
 
@@ -81,8 +83,7 @@ fn same_find(s: &[u8], archive: &[u8], at: usize) -> bool
     }
     let found = archive_read::find(archive, record);
     let title = archive_read::title(archive, record);
-    answers(found, number_at(s, at + 4), length_at(s, at + 8))
-        & check::same(title, part(s, at + 16, n))
+    answers(found, number_at(s, at + 4), length_at(s, at + 8)) & (title == part(s, at + 16, n))
 }
 
 // Adds to a buffer of the length asked for; compares the number and length at `at`, and the buffer with the bytes after them.
@@ -99,7 +100,7 @@ fn same_added(
     vectors::fill_bytes(out);
     let added = archive_add::add(archive, segment, title, out);
     answers(added, number_at(s, at), length_at(s, at + 4))
-        & check::same(&out[..], part(s, at + 8, out.len()))
+        & (&out[..] == part(s, at + 8, out.len()))
 }
 
 // Kind 3: record, title, buffer's length; number, new length, buffer.
@@ -149,23 +150,26 @@ fn same_body(s: &[u8]) -> bool {
 
 // ---- the cases
 
-fn next_differs() -> bool {
+fn next_differs<R: Read>(input: &mut R) -> io::Result<bool> {
     let mut body = [0u8; 131072];
-    let n = vectors::read_case(&mut body);
-    !same_body(&body[0..n])
+    let n = vectors::read_case(input, &mut body)?;
+    Ok(!same_body(&body[0..n]))
 }
 
-fn main() {
+fn main(rt: HostRuntime) -> io::Result<()> {
+    let mut input = rt.stdin();
+    let mut output = rt.stdout();
     let mut word = [0u8; 4];
-    let cases = vectors::read_word(&mut word);
+    let cases = vectors::read_word(&mut input, &mut word)?;
     let mut differing: u32 = 0;
     let mut i: u32 = 0;
     while i < cases {
-        if next_differs() {
-            differing = vectors::differing(i, differing);
+        if next_differs(&mut input)? {
+            differing = vectors::differing(&mut output, i, differing)?;
         }
         i += 1;
     }
     let mut line = [0u8; 64];
-    vectors::finish(&mut line, cases, differing);
+    vectors::finish(&mut output, &mut line, cases, differing)?;
+    Ok(())
 }

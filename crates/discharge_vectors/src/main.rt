@@ -5,6 +5,8 @@ ghost use Rattle.std.specs.Prelude.{◌+◌, ◌*◌, ◌≤◌, length};
 ghost use Rattle.discharge_vectors.specs.Room.{room};
 
 use discharge::Discharged;
+use std::io;
+use std::io::Read;
 
 // The longest profile that a case lends.
 const ROOM: usize = 1000;
@@ -70,23 +72,26 @@ fn case_differs(body: &[u8]) -> bool {
     body_differs(&body[2..lent], &body[at..], m)
 }
 
-fn next_differs() -> bool {
-    let mut body = io::buffer();
-    let n = vectors::read_case(&mut body);
-    case_differs(&body[0..n])
+fn next_differs<R: Read>(input: &mut R) -> io::Result<bool> {
+    let mut body = [0u8; 4096];
+    let n = vectors::read_case(input, &mut body)?;
+    Ok(case_differs(&body[0..n]))
 }
 
-fn main() {
+fn main(rt: HostRuntime) -> io::Result<()> {
+    let mut input = rt.stdin();
+    let mut output = rt.stdout();
     let mut word = [0u8; 4];
-    let cases = vectors::read_word(&mut word);
+    let cases = vectors::read_word(&mut input, &mut word)?;
     let mut differing: u32 = 0;
     let mut i: u32 = 0;
     while i < cases {
-        if next_differs() {
-            differing = vectors::differing(i, differing);
+        if next_differs(&mut input)? {
+            differing = vectors::differing(&mut output, i, differing)?;
         }
         i += 1;
     }
     let mut line = [0u8; 64];
-    vectors::finish(&mut line, cases, differing);
+    vectors::finish(&mut output, &mut line, cases, differing)?;
+    Ok(())
 }

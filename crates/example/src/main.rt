@@ -4,8 +4,8 @@
 use archive_format::{Answer, TitlePart};
 use balance_decision::Outcome;
 use discharge::Discharged;
-use libc::STDOUT_FILENO;
 use points::{Point, Points};
+use std::io;
 use validation::Checked;
 
 // The paper's record 1: cycle 60, running time 40000 ms, headway 4100 ms, 360 veh/h in by access and out through.
@@ -38,104 +38,100 @@ fn busy() -> [u8; 68] {
     r
 }
 
-fn say(label: &[u8], n: u64) {
-    io::write_all(STDOUT_FILENO, label);
-    io::print_decimal(STDOUT_FILENO, n);
-    io::write_all(STDOUT_FILENO, b"\n");
+fn say(rt: &impl Print, label: &str, n: u64) -> io::Result<()> {
+    println!(rt; "{label} {n}")
 }
 
-fn tell(label: &[u8], answer: Answer) {
+fn tell(rt: &impl Print, label: &str, answer: Answer) -> io::Result<()> {
     match answer {
-        Answer::Value(n) => say(label, n as u64),
-        Answer::Refused(n) => say(b"refused ", n as u64),
+        Answer::Value(n) => say(rt, label, n as u64),
+        Answer::Refused(n) => say(rt, "refused", n as u64),
     }
 }
 
-fn tell_part(part: TitlePart) {
+fn tell_part(rt: &impl Print, part: TitlePart) -> io::Result<()> {
     match part {
         TitlePart::Part { place, length } => {
-            say(b"title at ", place as u64);
-            say(b"title of ", length as u64);
+            say(rt, "title at", place as u64)?;
+            say(rt, "title of", length as u64)
         }
-        TitlePart::Refused(n) => say(b"refused ", n as u64),
+        TitlePart::Refused(n) => say(rt, "refused", n as u64),
     }
 }
 
-fn read(archive: &[u8]) {
+fn read(rt: &impl Print, archive: &[u8]) -> io::Result<()> {
     let count = archive_read::count(archive);
     let place = archive_read::place(archive, 0);
     let found = archive_read::find(archive, 1);
     let part = archive_read::title_part(archive, 1);
     let title = archive_read::title(archive, 1);
-    tell(b"records ", count);
-    tell(b"place of the first: ", place);
-    tell(b"place of record 1: ", found);
-    tell_part(part);
-    io::write_all(STDOUT_FILENO, title);
-    io::write_all(STDOUT_FILENO, b"\n");
+    tell(rt, "records", count)?;
+    tell(rt, "place of the first:", place)?;
+    tell(rt, "place of record 1:", found)?;
+    tell_part(rt, part)?;
+    rt.write_all(title)?;
+    rt.write_all(b"\n")
 }
 
 // The text of an archive, or the refusal of a buffer that is too short for every text.
-fn print(archive: &[u8], text: &mut [u8]) {
+fn print(rt: &impl Print, archive: &[u8], text: &mut [u8]) -> io::Result<()> {
     let answer = report::report(archive, text);
     match answer {
-        Answer::Value(n) => {
-            io::write_all(STDOUT_FILENO, &text[0..n]);
-        }
-        Answer::Refused(n) => say(b"refused ", n as u64),
+        Answer::Value(n) => rt.write_all(&text[0..n]),
+        Answer::Refused(n) => say(rt, "refused", n as u64),
     }
 }
 
-fn file(record: &[u8]) {
+fn file(rt: &impl Print, record: &[u8]) -> io::Result<()> {
     let archive = archive_format::empty();
     let mut bigger = [0u8; 128];
     let added = archive_add::add(&archive, record, b"Elm Street", &mut bigger);
-    tell(b"new length ", added);
-    read(&bigger[0..87]);
+    tell(rt, "new length", added)?;
+    read(rt, &bigger[0..87])?;
     let mut short = [0u8; 512];
-    print(&bigger[0..87], &mut short);
+    print(rt, &bigger[0..87], &mut short)?;
     let mut text = [0u8; report::TEXT_ROOM];
-    print(&bigger[0..87], &mut text);
+    print(rt, &bigger[0..87], &mut text)
 }
 
-fn check(record: &[u8]) {
+fn check(rt: &impl Print, record: &[u8]) -> io::Result<()> {
     match validation::check(record) {
-        Checked::Valid(segment) => say(b"cycle ", segment.cycle as u64),
-        Checked::Refused(n) => say(b"refused ", n as u64),
+        Checked::Valid(segment) => say(rt, "cycle", segment.cycle as u64),
+        Checked::Refused(n) => say(rt, "refused", n as u64),
     }
 }
 
-fn discharge_of(record: &[u8]) {
+fn discharge_of(rt: &impl Print, record: &[u8]) -> io::Result<()> {
     let mut profile = [0u32; limits::DISCHARGE_ROOM];
     match discharge::discharge(record, &mut profile) {
         Discharged::Volumes {
             left: _,
             through,
             right: _,
-        } => say(b"through discharges ", through as u64),
-        Discharged::Refused(n) => say(b"refused ", n as u64),
+        } => say(rt, "through discharges", through as u64),
+        Discharged::Refused(n) => say(rt, "refused", n as u64),
     }
 }
 
-fn work(record: &[u8]) {
+fn work(rt: &impl Print, record: &[u8]) -> io::Result<()> {
     let mut output = [0u32; limits::OUTPUT_ROOM];
     let mut first = [0u32; limits::CYCLE_ROOM];
     let mut second = [0u32; limits::CYCLE_ROOM];
     let w = working::work(record, &mut output, &mut first, &mut second);
     let outcome = w.outcome;
     match outcome {
-        Outcome::Worked(_) => say(b"permille on green ", w.through.permille as u64),
-        Outcome::Refused(n) => say(b"refused ", n as u64),
-        Outcome::Unsettled(_) => say(b"refused ", 15),
+        Outcome::Worked(_) => say(rt, "permille on green", w.through.permille as u64),
+        Outcome::Refused(n) => say(rt, "refused", n as u64),
+        Outcome::Unsettled(_) => say(rt, "refused", 15),
     }
 }
 
-fn show(lines: &[u8]) {
-    io::write_all(STDOUT_FILENO, lines);
+fn show(rt: &impl Print, lines: &[u8]) -> io::Result<()> {
+    rt.write_all(lines)
 }
 
 // The first ten lines of a sheet.
-fn print_sheet(record: &[u8]) {
+fn print_sheet(rt: &impl Print, record: &[u8]) -> io::Result<()> {
     let mut page = [0u8; page::PAGE_ROOM];
     let mut output = [0u32; limits::OUTPUT_ROOM];
     let mut first = [0u32; limits::CYCLE_ROOM];
@@ -143,9 +139,9 @@ fn print_sheet(record: &[u8]) {
     let w = sheet::sheet(record, &mut page, &mut output, &mut first, &mut second);
     let outcome = w.outcome;
     match outcome {
-        Outcome::Worked(_) => show(&page[0..730]),
-        Outcome::Refused(n) => say(b"refused ", n as u64),
-        Outcome::Unsettled(_) => say(b"refused ", 15),
+        Outcome::Worked(_) => show(rt, &page[0..730]),
+        Outcome::Refused(n) => say(rt, "refused", n as u64),
+        Outcome::Unsettled(_) => say(rt, "refused", 15),
     }
 }
 
@@ -166,12 +162,12 @@ fn two_points() -> Points {
     Points { count: 2, at }
 }
 
-fn tell_blocked(blocked: [u32; points::POINT_ROOM]) {
-    say(b"blocked at the first point ", blocked[0] as u64);
-    say(b"blocked at the second ", blocked[1] as u64);
+fn tell_blocked(rt: &impl Print, blocked: [u32; points::POINT_ROOM]) -> io::Result<()> {
+    say(rt, "blocked at the first point", blocked[0] as u64)?;
+    say(rt, "blocked at the second", blocked[1] as u64)
 }
 
-fn work_points(record: &[u8]) {
+fn work_points(rt: &impl Print, record: &[u8]) -> io::Result<()> {
     let mut output = [0u32; limits::OUTPUT_ROOM];
     let mut passing = [0u32; 2 * limits::CYCLE_ROOM];
     let mut first = [0u32; limits::CYCLE_ROOM];
@@ -188,19 +184,19 @@ fn work_points(record: &[u8]) {
     let outcome = working.outcome;
     let blocked = w.blocked;
     match outcome {
-        Outcome::Worked(_) => tell_blocked(blocked),
-        Outcome::Refused(n) => say(b"refused ", n as u64),
-        Outcome::Unsettled(_) => say(b"refused ", 15),
+        Outcome::Worked(_) => tell_blocked(rt, blocked),
+        Outcome::Refused(n) => say(rt, "refused", n as u64),
+        Outcome::Unsettled(_) => say(rt, "refused", 15),
     }
 }
 
-fn main() {
+fn main(rt: HostRuntime) -> io::Result<()> {
     let r = record();
-    check(&r);
-    file(&r);
-    discharge_of(&r);
-    work(&r);
-    print_sheet(&r);
+    check(&rt, &r)?;
+    file(&rt, &r)?;
+    discharge_of(&rt, &r)?;
+    work(&rt, &r)?;
+    print_sheet(&rt, &r)?;
     let b = busy();
-    work_points(&b);
+    work_points(&rt, &b)
 }

@@ -1,40 +1,60 @@
 // What the programs share: an archive read from standard input, and the text of it written to standard output.
 #![tactic(auto)]
 
-ghost use Rattle.std.specs.Prelude.{◌≡◌, ◌+◌, ◌≤◌, length};
+ghost use Rattle.std.specs.Prelude.{◌≡◌, ◌+◌, ◌≤◌, ◌<◌, length, take, IfOk, OnOk};
+ghost use Rattle.std.specs.Io.KnownBytes.{Appends, Consumes, IsAtEnd};
 ghost use Rattle.report.specs.Report.{input_limit, input_text};
 ghost use Rattle.report.specs.Whole.{Text};
 
 use archive_format::Answer;
-use libc::{STDIN_FILENO, STDOUT_FILENO};
 use report::Form;
+use std::io;
+use std::io::{Read, Write};
 
-// Reads the input. The buffer is asked to have one byte more than the longest input that is taken, so that longer input shows;
-// what is read into it no contract can say.
-pub fn read_input(input: &mut [u8]) -> usize
+// Reads the input. The buffer is asked to have one byte more than the longest input that is taken, so that longer input shows.
+// What a reader of known bytes had left begins with what is read, which is less than the buffer only where no more was left.
+pub fn read_input<R: Read>(from: &mut R, input: &mut [u8]) -> io::Result<usize>
     requires { length input.old ≡ input_limit + 1 }
-    ensures { result ≤ length input.new }
+    ensures within { IfOk result (λ n. n ≤ length input.new) }
+    ensures taken { IfOk result (λ n. Consumes (R.remaining from.old) (R.remaining from.new) (take n input.new)) }
+    ensures ended { IfOk result (λ n. n < length input.new → IsAtEnd (R.remaining from.new)) }
 {
-    io::read_full(STDIN_FILENO, input)
+    let mut n = 0;
+    while n < input.len() {
+        let more = from.read(&mut input[n..])?;
+        if more == 0 {
+            return Ok(n);
+        }
+        n += more;
+    }
+    Ok(n)
 }
 
 // Hands the whole text of an input to the one output call, which is asked; form and input are lent for that alone.
-fn write_text(form: Form, input: &[u8], text: &[u8])
+fn write_text<W: Write>(to: &mut W, form: Form, input: &[u8], text: &[u8]) -> io::Result<()>
     requires { text.now ≡ input_text form input.now }
+    ensures { OnOk result (Appends (W.contents to.old) (W.contents to.new) (input_text form input.now)) }
 {
-    io::write_all(STDOUT_FILENO, text);
+    to.write_all(text)
 }
 
-// An answer that is asked to be the text's length, and so no refusal; that length is handed back.
-pub fn write_answer(form: Form, input: &[u8], text: &[u8], answer: Answer) -> usize
+// An answer that is asked to be the text's length, and so no refusal: the text is written, and its length handed back.
+pub fn write_answer<W: Write>(
+    to: &mut W,
+    form: Form,
+    input: &[u8],
+    text: &[u8],
+    answer: Answer,
+) -> io::Result<usize>
     requires { Text form input.now text.now answer }
-    ensures { result ≡ length (input_text form input.now) }
+    ensures size { IfOk result (λ n. n ≡ length (input_text form input.now)) }
+    ensures written { OnOk result (Appends (W.contents to.old) (W.contents to.new) (input_text form input.now)) }
 {
     match answer {
         Answer::Value(n) => {
-            write_text(form, input, &text[..n]);
-            n
+            write_text(to, form, input, &text[..n])?;
+            Ok(n)
         }
-        Answer::Refused(_) => 0,
+        Answer::Refused(_) => Ok(0),
     }
 }
