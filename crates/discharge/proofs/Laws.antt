@@ -6,9 +6,9 @@ use lib.ListN.{length}
 use borrow.Author.Tests.{leb-true}
 use Rattle.refusal.specs.Refusal.{ok}
 use Rattle.segment.specs.declared.Segment.{Segment}
-use Rattle.validation.specs.declared.Checked.TheVariants.{Refused, Valid}
+use Rattle.validation.specs.declared.Checked.TheVariants.{Valid}
 use Rattle.validation.specs.Validation.{checked_of}
-use Rattle.validation.specs.Accepting.{checked_refused, checked_valid, accept_passed}
+use Rattle.validation.specs.Accepting.{checked_valid, accept_passed}
 use Rattle.ranges.specs.Ranges.{Ranges}
 use Rattle.movements.specs.declared.Counts.{Counts}
 use Rattle.metering.specs.Metering.{discharge_volumes}
@@ -25,11 +25,6 @@ all_answered s e = rw e
 
 -- the call from what it decided
 module _ (l p : List ℕ) where
-  pub refuses : (n : ℕ) → checked_of (accept_of l (length p)) ≡ Refused n → Calls l p (d.Refused n) p
-  refuses n e =
-      let q = checked_refused (accept_of l (length p)) n e in
-      called l p (d.Refused n) p (rw q) (rw q)
-
   pub asks : (s : Segment) → checked_of (accept_of l (length p)) ≡ Valid s → Ranges s × (3 * s.cycle ≤ length p)
   asks s e =
       let a = accept_passed l _ s (checked_valid (accept_of l (length p)) s e) in
