@@ -58,7 +58,7 @@ unfolding call_of
 call_worked l p = record_worked (accept_of l (length p.output) (length p.first) (length p.second)) p
 
 -- the working that a call with points answers is that of the record
-working_is : (x : Or Segment) (ps : Points) (p : Profiles) (q : List ℕ) → (pointed.byRecord x ps p q).answer.working ≡ (by_record x p).answer
+working_is : (x : Or Segment) (ps : Points) (p : Profiles) (q : List ℕ) → (pointed.by_record x ps p q).answer.working ≡ (by_record x p).answer
 working_is (refused n) ps p q = refl
 working_is (ok s) ps p q = refl
 
@@ -66,7 +66,7 @@ pub point_call_worked : (l : List ℕ) (ps : Points) (p : Profiles) (q : List �
     let o = (point_call_of l ps p q).answer.working.outcome in refusal_of o ≡ 0 → WorkedAt o
 unfolding point_call_of
 point_call_worked l ps p q =
-    let x = pointed.acceptOf l ps (length p.output) (length q) (length p.first) (length p.second) in
+    let x = pointed.accept_of l ps (length p.output) (length q) (length p.first) (length p.second) in
     rw (working_is x ps p q) (record_worked x p)
 
 -- the call's contract, in numbers

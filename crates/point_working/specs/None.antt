@@ -36,7 +36,7 @@ module _ (ps : Points) (none : ps.count ≡ 0) where
   unfolding need all_fit
   tests_none o q f g s = rw (none_given ps none, room s.cycle q, and_true, none)
 
-  accepts_none : (l : List ℕ) (o q f g : ℕ) → accept_of l ps o q f g ≡ working.acceptOf l o f g
+  accepts_none : (l : List ℕ) (o q f g : ℕ) → accept_of l ps o q f g ≡ working.accept_of l o f g
   unfolding accept_with
   accepts_none l o q f g = go (check_of l)
     where
@@ -59,15 +59,15 @@ module _ (ps : Points) (none : ps.count ≡ 0) where
   with_none : (s : Segment) (c : working.Called) (q : List ℕ) → with_points s ps c q ≡ without c q
   with_none s c q = rw (passing_none s c.answer.outcome q, counts_none s c.answer.outcome)
 
-  record_none : (x : Or Segment) (p : Profiles) (q : List ℕ) → by_record x ps p q ≡ without (working.byRecord x p) q
+  record_none : (x : Or Segment) (p : Profiles) (q : List ℕ) → by_record x ps p q ≡ without (working.by_record x p) q
   record_none (refused n) p q = refl
-  record_none (ok s) p q = with_none s (working.byDecision s (working.decisionFor s) p) q
+  record_none (ok s) p q = with_none s (working.by_decision s (working.decision_for s) p) q
 
   pub none_is : (l : List ℕ) (p : Profiles) (q : List ℕ) → point_call_of l ps p q ≡ without (working.call_of l p) q
   unfolding point_call_of working.call_of
   none_is l p q =
       rw (accepts_none l (length p.output) (length q) (length p.first) (length p.second))
-      (record_none (working.acceptOf l (length p.output) (length p.first) (length p.second)) p q)
+      (record_none (working.accept_of l (length p.output) (length p.first) (length p.second)) p q)
 
   -- of the calls: what a call with none leaves is what the call without leaves
   pub none_works : {l : List ℕ} {p : Profiles} {q : List ℕ} {r : PointWorking} {p' : Profiles} {q' : List ℕ} → PointWorks l ps p q r p' q' →
