@@ -268,7 +268,13 @@ def move(crate):
         out = [o if len(o) <= 160 else "-- Laws of specs/" + m + ".antt." for o in out]
         out += imports + ([f"use Rattle.{crate}.specs.{m}.{{{', '.join(cited)}}}"] if cited else []) + strip(go)
         write(os.path.join(top, "proofs", target + ".antt"), out)
-        write(os.path.join(specs, m + ".antt"), head + strip(stay) + [l for l in rest if l.strip()])
+        if any(START.match(l) for l in stay):
+            write(os.path.join(specs, m + ".antt"), head + strip(stay) + [l for l in rest if l.strip()])
+        else:  # nothing is left to say what
+            os.remove(os.path.join(specs, m + ".antt"))
+            lib = os.path.join(specs, "Lib.antt")
+            have = open(lib, encoding="utf-8").read()
+            open(lib, "w", encoding="utf-8").write(re.sub(rf"(?m)^(pub )?mod {m}\n", "", have))
         lib = os.path.join(top, "proofs", "Lib.antt")
         have = open(lib, encoding="utf-8").read() if os.path.exists(lib) else ""
         if f"mod {target}\n" not in have:
@@ -311,14 +317,13 @@ def mend():
     for c in sorted(os.listdir("crates")):
         specs = os.path.join("crates", c, "specs")
         proofs = os.path.join("crates", c, "proofs")
-        if not os.path.isdir(proofs) or not os.path.isdir(specs):
+        if not os.path.isdir(proofs):
             continue
-        for f in os.listdir(specs):
-            m = f[:-5]
-            for t in (m, m + "Laws"):
-                p = os.path.join(proofs, t + ".antt")
-                if f.endswith(".antt") and f != "Lib.antt" and os.path.exists(p) and open(p, encoding="utf-8").read().startswith(f"-- Laws of specs/{m}.antt"):
-                    home[f"Rattle.{c}.specs.{m}"] = (f"Rattle.{c}.proofs.{t}", declared(os.path.join(specs, f)), declared(p))
+        for f in sorted(os.listdir(proofs)):
+            p = os.path.join(proofs, f)
+            first = re.match(r"-- Laws of specs/(\w+)\.antt", open(p, encoding="utf-8").readline()) if f.endswith(".antt") else None
+            if first:
+                home[f"Rattle.{c}.specs.{first[1]}"] = (f"Rattle.{c}.proofs.{f[:-5]}", declared(os.path.join(specs, first[1] + ".antt")), declared(p))
     for folder, inner, names in os.walk("crates"):
         inner[:] = [d for d in inner if d != "out"]
         for n in names:

@@ -1,4 +1,3 @@
 pub mod Accuracy
 pub mod Near
-pub mod Holds
 pub mod Alone

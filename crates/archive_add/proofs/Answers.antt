@@ -10,14 +10,16 @@ use Rattle.archive_format.specs.declared.Answer.TheVariants.{Value, Refused}
 use Rattle.archive_format.specs.Archive.{record_limit, title_limit, Filed, Sized, body, place_after, places, encode, title_fits, filed_from, decode}
 use Rattle.archive_format.specs.Archive.{single, add_to, add_of}
 use Rattle.archive_format.specs.Words.{Bytes}
-use Rattle.archive_format.specs.Decoded.{Shaped, Fit, decoded_is_fit, body_laid, places_laid}
-use Rattle.archive_format.specs.Encoded.{length_places, length_encode}
+use Rattle.archive_format.specs.Decoded.{Shaped, Fit, body_laid, places_laid}
+use Rattle.archive_format.proofs.Decoded.{decoded_is_fit}
+use Rattle.archive_format.specs.Encoded.{length_places}
+use Rattle.archive_format.proofs.Encoded.{length_encode}
 use Rattle.archive_format.specs.Sizes.{body_bound}
 use Rattle.archive_format.specs.Joined.{body_append, body_next}
 use Rattle.archive_open.specs.declared.Opened.TheVariants.{Invalid}
 use Rattle.archive_open.specs.Opening.{opened_of, invalid, Held, held_run, held_fits}
 use Rattle.buffer.specs.Buffer.{Wrote}
-use Rattle.buffer.specs.Pieces.{wrote_fits}
+use Rattle.buffer.proofs.Pieces.{wrote_fits}
 use Rattle.archive_write.specs.Writing.{record_bytes, grown, record_length}
 use Rattle.archive_add.specs.Adds.{Adds}
 

@@ -5,7 +5,8 @@ use Rattle.refusal.specs.Refusal.{Or, refused, ok, false_true}
 use Rattle.archive_format.specs.declared.Edition.{Edition}
 use Rattle.archive_format.specs.declared.Answer.TheVariants.{Value, Refused}
 use Rattle.archive_format.specs.Archive.{add_of, new_length, overwrite}
-use Rattle.archive_format.specs.Adding.{Added, added}
+use Rattle.archive_format.specs.Adding.{Added}
+use Rattle.archive_format.proofs.Adding.{added}
 use Rattle.archive_add.specs.Adds.{Adds}
 
 module _ (e : Edition) (l b t out : List ℕ) (n : ℕ) (out' : List ℕ) where

@@ -1,12 +1,9 @@
 -- Two lists of records, one after the other: their titles, numbers, shapes and bytes; the first of a fit list is fit.
-use Rattle.std.specs.Prelude.{ℕ, ◌+◌, ◌≤◌, ◌≡◌, refl, true, ◌&&◌, List, [], ◌∷◌, ◌++◌, ltb, length}
+use Rattle.std.specs.Prelude.{ℕ, ◌+◌, ◌≤◌, ◌≡◌, refl, ◌&&◌, List, [], ◌∷◌, ◌++◌, ltb, length}
 use Rattle.std.proofs.Common.{arith, sym, ◌∙◌, append_assoc, length-append}
 use Rattle.std.proofs.Math.Bool.{and_assoc}
-use Rattle.refusal.specs.Refusal.{both}
-use Rattle.archive_format.specs.declared.Edition.{Edition}
-use Rattle.archive_format.specs.Archive.{Filed, record_number, body, encode, printables, titled, rising, last_number, place_after}
-use Rattle.archive_format.specs.Decoded.{Shaped, Fit}
-use Rattle.archive_format.specs.Encoded.{length_encode}
+use Rattle.archive_format.specs.Archive.{Filed, record_number, body, printables, titled, rising, last_number, place_after}
+use Rattle.archive_format.specs.Decoded.{Shaped}
 
 pub titled_append : (fs gs : List Filed) → titled (fs ++ gs) ≡ (titled fs && titled gs)
 unfolding titled
@@ -38,32 +35,3 @@ pub body_next : (size at : ℕ) (f : Filed) (fs : List Filed) → length f.bytes
     → place_after size at f + length (body fs) ≡ at + length (body (f ∷ fs))
 unfolding body
 body_next size at f fs sized = simp length-append (omega arith)
-
--- more records never have fewer bytes
-pub length_more : (e : Edition) (fs gs : List Filed) → length (encode e fs) ≤ length (encode e (fs ++ gs))
-length_more e fs gs =
-    let b : length (body (fs ++ gs)) ≡ length (body fs) + length (body gs) = rw (body_append fs gs) (length-append (body fs) (body gs)) in
-    omega (arith, length_encode e fs, length_encode e (fs ++ gs), length-append fs gs)
-
-module _ (e : Edition) (fs gs : List Filed) (f : Fit e (fs ++ gs)) where
-  titles_both : (titled fs ≡ true) × (titled gs ≡ true)
-  titles_both = both _ _ (sym (titled_append fs gs) ∙ f.titles)
-
-  rises_both : (rising 0 fs ≡ true) × (rising (last_number 0 fs) gs ≡ true)
-  rises_both = both _ _ (sym (rising_append 0 fs gs) ∙ f.risen)
-
-  pub fit_first : Fit e fs
-  fit_first =
-      record {
-        shaped = (shaped_parts e.size fs gs f.shaped).0;
-        titles = titles_both.0;
-        risen = rises_both.0;
-        many = omega (arith, f.many, length-append fs gs);
-      }
-
-  -- what comes after it
-  pub fit_titles : titled gs ≡ true
-  fit_titles = titles_both.1
-
-  pub fit_rises : rising (last_number 0 fs) gs ≡ true
-  fit_rises = rises_both.1

@@ -9,7 +9,8 @@ use Rattle.archive_format.specs.declared.Answer.TheVariants.{Value, Refused}
 use Rattle.archive_format.specs.declared.TitlePart.TheVariants.{Part, Refused as NoPart}
 use Rattle.archive_format.specs.Archive.{filed_from, next_at, decode, answer_of, count_of, place_of, find_in, find_of, title_part_of, title_of}
 use Rattle.archive_format.specs.Reading.{filed_length}
-use Rattle.archive_format.specs.Finding.{find_within, place_at, place_beyond}
+use Rattle.archive_format.specs.Finding.{place_at, place_beyond}
+use Rattle.archive_format.proofs.Finding.{find_within}
 use Rattle.archive_open.specs.declared.Opened.TheVariants.{Invalid}
 use Rattle.archive_open.specs.Opening.{opened_of, invalid, Held, held_run, held_fits, held_filed}
 

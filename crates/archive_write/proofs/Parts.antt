@@ -4,7 +4,7 @@ use Rattle.std.proofs.Common.{arith, ◌∙◌, append_assoc, mod-eq_of_lt, leng
 use Rattle.std.proofs.Math.Nat.{sub-zero}
 use Rattle.octets.specs.Octets.{bytes2}
 use Rattle.buffer.specs.Buffer.{Wrote}
-use Rattle.buffer.specs.Pieces.{◌then◌, wrote_fits}
+use Rattle.buffer.proofs.Pieces.{◌then◌, wrote_fits}
 use Rattle.archive_format.specs.declared.Edition.{Edition}
 use Rattle.archive_write.specs.Writing.{record_bytes, record_length, end_bytes, grown, Fits}
 

@@ -1,7 +1,9 @@
 -- The loops that add arrivals to a run where their steps land: what they keep, whatever is added of each arrival.
 use Rattle.std.proofs.Common.{ℕ, ◌+◌, ◌-◌, ◌≤◌, ◌<◌, arith, ◌≡◌, ap, ◌∙◌, List, ◌∷◌, length, set, get_or}
-use Rattle.signal.specs.Turn.{turn, turn_pos, turn_le, turn_next}
-use Rattle.signal.specs.Adding.{Adding, place_within, adding_turn}
+use Rattle.signal.specs.Turn.{turn}
+use Rattle.signal.proofs.Turn.{turn_pos, turn_le, turn_next}
+use Rattle.signal.specs.Adding.{Adding}
+use Rattle.signal.proofs.Adding.{place_within, adding_turn}
 use Rattle.arrivals.specs.Arrivals.{LandsFit}
 
 -- i arrivals are done, and what is left of all that they bring is to come; the next one lands in step `lands`

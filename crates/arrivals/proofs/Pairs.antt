@@ -3,9 +3,9 @@ use Rattle.std.proofs.Common.{ℕ, zero, suc, ◌+◌, ◌-◌, ◌≤◌, ◌<�
 use Rattle.std.proofs.Math.Seq.{set-get_or}
 use Rattle.signal.specs.Turn.{turn}
 use Rattle.signal.specs.Landing.{added}
-use Rattle.signal.specs.Adding.{adding_done}
+use Rattle.signal.proofs.Adding.{adding_done}
 use Rattle.pair_parts.specs.PairParts.{part_of, rest_of, parts, pair_arrivals}
-use Rattle.pair_parts.specs.Laws.{rest_lt, pair_parts, pair_without}
+use Rattle.pair_parts.proofs.Laws.{rest_lt, pair_parts, pair_without}
 use Rattle.arrivals.specs.declared.Part.{Part}
 use Rattle.arrivals.specs.Arrivals.{PairFits}
 use Rattle.arrivals.proofs.Landing.{Landing, landing_turn}

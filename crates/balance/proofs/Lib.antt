@@ -1,1 +1,3 @@
 pub mod Rounds
+pub mod Ending
+pub mod SettlingLaws

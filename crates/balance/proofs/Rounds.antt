@@ -7,7 +7,7 @@ use Rattle.balance_flows.specs.declared.FlowTable.{FlowTable}
 use Rattle.balance_round.specs.declared.Round.{Round}
 use Rattle.balance_round.specs.Round.{round_of, stops}
 use Rattle.balance.specs.Settling.{threshold, cells_of, unsettled, closed, start, Running, after, next, rounds, report, settle}
-use Rattle.balance.specs.Ending.{ended}
+use Rattle.balance.proofs.Ending.{ended}
 
 -- n rounds are over, the last of them `before`, and none ended the settling: it is that of the rounds left
 pub record RoundsLeft (limit : ℕ) (o d : Flows) (p : FlowTable) (before : Round) (n : ℕ) : Type 0 where

@@ -1,7 +1,7 @@
 -- The settling and its cells: items 4 and 5 of "Metering and shares".
-use Rattle.std.specs.Prelude.{ℕ, zero, suc, ◌+◌, Bool, true, false, cond, eqb, ◌≡◌, refl, Float}
+use Rattle.std.specs.Prelude.{ℕ, zero, suc, ◌+◌, Bool, true, false, cond, eqb, ◌≡◌, Float}
 use Rattle.std.specs.Float.{binary64}
-use Rattle.std.specs.Float.Ieee.{of_bits, round, lt}
+use Rattle.std.specs.Float.Ieee.{of_bits, lt}
 use Rattle.movements.specs.declared.Counts.{Counts}
 use Rattle.movements.specs.declared.Seeds.{Seeds}
 use Rattle.balance_flows.specs.declared.Flows.{Flows}
@@ -21,11 +21,6 @@ round_limit = 200
 -- a sum of differences below it settles
 abbrev pub threshold : Float
 threshold = of_bits binary64 0x3f84_7ae1_47ae_147b
-
--- it is 1/100, rounded once
-pub threshold_is : threshold ≡ round binary64 false 1 100
-unfolding of_bits round
-threshold_is = refl
 
 -- (Oa·b)·p
 abbrev pub cell : Float → Float → Float → Float

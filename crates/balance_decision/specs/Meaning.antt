@@ -12,7 +12,7 @@ use Rattle.balance.specs.declared.Settling.{Settling}
 use Rattle.balance.specs.declared.Settling.TheVariants as settling
 use Rattle.balance.specs.declared.Balance.{Balance}
 use Rattle.balance.specs.Settling.{round_limit, balanced}
-use Rattle.balance.specs.Ending.{balanced_rounds}
+use Rattle.balance.proofs.Ending.{balanced_rounds}
 use Rattle.lists.specs.Lists.{sum}
 use Rattle.balance_pairs.specs.Pairs.{pair_rows, rows_add}
 use Rattle.balance_refusals.specs.Refusals.{no_volume, any_unserved_entry, any_unserved_exit}

@@ -1,1 +1,2 @@
 pub mod Copied
+pub mod Pieces

@@ -8,7 +8,8 @@ use Rattle.refusal.specs.Refusal.{ok}
 use Rattle.segment.specs.declared.Segment.{Segment}
 use Rattle.validation.specs.declared.Checked.TheVariants.{Valid}
 use Rattle.validation.specs.Validation.{checked_of}
-use Rattle.validation.specs.Accepting.{checked_valid, accept_passed}
+use Rattle.validation.specs.Accepting.{checked_valid}
+use Rattle.validation.proofs.Accepting.{accept_passed}
 use Rattle.ranges.specs.Ranges.{Ranges}
 use Rattle.movements.specs.declared.Counts.{Counts}
 use Rattle.metering.specs.Metering.{discharge_volumes}
@@ -16,7 +17,7 @@ use Rattle.discharge.specs.declared.Discharged.{Discharged}
 use Rattle.discharge.specs.declared.Discharged.TheVariants as d
 use Rattle.entries.specs.Entries.{entry_profiles}
 use Rattle.discharge.specs.Discharge.{accept_of, answer_of, Calls}
-use Rattle.discharge.specs.Laws.{called}
+use Rattle.discharge.proofs.LawsLaws.{called}
 
 -- the three volumes
 pub all_answered : (s : Segment) {o : Counts} → o ≡ discharge_volumes s → d.Volumes o.left o.through o.right ≡ answer_of (ok s)

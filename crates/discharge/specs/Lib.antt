@@ -1,2 +1,1 @@
 pub mod Discharge
-pub mod Laws

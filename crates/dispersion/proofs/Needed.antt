@@ -1,7 +1,8 @@
 -- How many cycles are needed after one more: the step that both loops over the cycles take. What so many cycles leave is a parameter.
 use Rattle.std.proofs.Common.{ℕ, ◌+◌, ◌≤◌, ◌<◌, arith, Bool, true, false, ◌&&◌, ◌≡◌, refl, ◌∙◌, ltb, ltb-true}
 use Rattle.dispersion.specs.declared.PlatoonState.{PlatoonState}
-use Rattle.dispersion.specs.Rest.{same_state, needed_when, needed_of, same_state_lem}
+use Rattle.dispersion.specs.Rest.{same_state, needed_when, needed_of}
+use Rattle.dispersion.proofs.Rest.{same_state_lem}
 
 -- no fewer than are worked, no more than before, and they leave what all n do
 pub record Enough {A : Type 0} (leaves : ℕ → A) (n needed k needed' : ℕ) : Type 0 where

@@ -2,7 +2,7 @@
 -- two profiles are to hold it, is all that needs working.
 use Rattle.std.specs.Prelude.{ℕ, zero, suc, ◌+◌, ◌%◌, ◌≤◌, Bool, true, false, ◌&&◌, cond, ◌≡◌, refl, List, ◌++◌, eqb, ltb, length, drop}
 use Rattle.std.proofs.Math.Nat.{le_dest}
-use Rattle.std.proofs.Common.{arith, ap, sym, ◌∙◌, eqb-true}
+use Rattle.std.proofs.Common.{arith, ap, sym, ◌∙◌}
 use Rattle.dispersion.specs.declared.PlatoonState.{PlatoonState}
 use Rattle.dispersion.specs.Dispersion.{arrivals, state_after, repeated, reported, Work, work, cycles_worked}
 use Rattle.dispersion.specs.Arrivals.{arrivals_append, state_append}
@@ -22,18 +22,6 @@ needed_when rests worked others cycles = cond rests (worked + others) cycles
 
 unfoldable pub needed_of : (worked others cycles : ℕ) → (before after : PlatoonState) → ℕ
 needed_of worked others cycles before after = needed_when (ltb worked cycles && same_state before after) worked others cycles
-
--- what the test calls the same is
-pub same_state_lem : (s t : PlatoonState) → same_state s t ≡ true → s ≡ t
-unfolding same_state
-same_state_lem s t e = go (eqb s.level t.level) (eqb s.carry t.carry) refl refl e
-  where
-    go : (a b : Bool) → eqb s.level t.level ≡ a → eqb s.carry t.carry ≡ b → (a && b) ≡ true → s ≡ t
-    go true true ea eb e =
-        ap (λ (x : ℕ). record { level = x; carry = s.carry }) (eqb-true s.level t.level ea)
-        ∙ ap (λ (x : ℕ). record { level = t.level; carry = x }) (eqb-true s.carry t.carry eb)
-    go true false ea eb e = absurd (let z : ◌≡◌ {A = ℕ} 0 1 = cc in omega arith)
-    go false b ea eb e = absurd (let z : ◌≡◌ {A = ℕ} 0 1 = cc in omega arith)
 
 -- cycles from a resting state give the same arrivals, one after the other, and leave the same state
 pub rest_again : (running : ℕ) (q : List ℕ) (s : PlatoonState) → AtRest running q s → (j : ℕ)

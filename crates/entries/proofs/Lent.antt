@@ -10,7 +10,7 @@ use Rattle.movements.specs.declared.Counts.{Counts}
 use Rattle.segment.specs.declared.Segment.{Segment}
 use Rattle.metering.specs.Metering.{discharge_volume, discharge_volumes}
 use Rattle.entries.specs.Entries.{entry_profile, entry_profiles, ProfilesFit}
-use Rattle.entries.specs.Laws.{entry_length}
+use Rattle.entries.proofs.Laws.{entry_length}
 
 -- the volumes, entry by entry
 pub volumes_of_lem : {s : Segment} {o : Counts} {p : List ℕ} → ProfilesFit s o p →

@@ -1,4 +1,3 @@
 pub mod Repeating
 pub mod Powers
-pub mod Laws
 pub mod FromEmpty

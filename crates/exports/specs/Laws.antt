@@ -14,28 +14,22 @@ use Rattle.balance_decision.specs.Meaning.{from_cells}
 use Rattle.metering.specs.Metering.{discharge_volumes}
 use Rattle.propagation.specs.Propagation.{Profiles}
 use Rattle.working_outcome.specs.declared.Working.{Working}
-use Rattle.working.specs.Working.{Called, Works, accept_of, call_of, by_record, by_decision, decided_outcome, decision_for}
+use Rattle.working.specs.Working.{Called, Works, accept_of, call_of, by_record, by_decision, decision_for}
+use Rattle.working.proofs.Working.{decided_outcome}
 use Rattle.page.specs.Page.{page_room}
 use Rattle.sheet.specs.Sheet.{SheetCalled, printed, no_room, sheet_by, sheet_call_of, Sheets}
 use Rattle.points.specs.declared.Points.{Points}
 use Rattle.point_working.specs.declared.PointWorking.{PointWorking}
 use Rattle.point_working.specs.PointWorking as pointed
 use Rattle.point_working.specs.PointWorking.{PointCalled, PointWorks, point_call_of}
-use Rattle.discharge.specs.declared.Discharged.{Discharged}
-use Rattle.discharge.specs.declared.Discharged.TheVariants.{Refused as RefusedVolumes, Volumes}
-use Rattle.discharge.specs.Discharge.{EntriesDischarge, Calls}
-use Rattle.discharge.specs.Laws.{refused_above}
-use Rattle.archive_format.specs.declared.Answer.{Answer}
 use Rattle.archive_format.specs.declared.TitlePart.{TitlePart}
 use Rattle.archive_format.specs.declared.TitlePart.TheVariants.{Part, Refused as NoPart}
-use Rattle.archive_format.specs.Archive.{first_edition, bytes_at, title_part_of, title_of, Writes}
+use Rattle.archive_format.specs.Archive.{first_edition, bytes_at, title_part_of, title_of}
 use Rattle.exports.specs.declared.WorkAnswer.{WorkAnswer}
 use Rattle.exports.specs.declared.PointWorkAnswer.{PointWorkAnswer}
-use Rattle.exports.specs.declared.VolumesAnswer.{VolumesAnswer}
-use Rattle.exports.specs.declared.ValueAnswer.{ValueAnswer}
 use Rattle.exports.specs.declared.TitleAnswer.{TitleAnswer}
-use Rattle.exports.specs.Exports.{SegmentWorks, work_answer, SegmentPointWorks, point_work_answer, SegmentSheets, SegmentDischarges, volumes_answer}
-use Rattle.exports.specs.Exports.{value_answer, ArchiveWrites, title_answer}
+use Rattle.exports.specs.Exports.{SegmentWorks, work_answer, SegmentPointWorks, point_work_answer, SegmentSheets}
+use Rattle.exports.specs.Exports.{title_answer}
 
 -- what has the number 0 is worked
 pub record WorkedAt (o : Outcome) : Type 0 where
@@ -94,7 +88,6 @@ segment_point_works l ps p q w p' q' r works e =
       points = λ z. let a = worked z in works.points a.sum a.is;
     }
 
--- a sheet that is made is that of a record that works
 sheet_call_worked : (l : List ℕ) (p : Profiles) (t : List ℕ) → let o = (sheet_call_of l p t).answer.outcome in refusal_of o ≡ 0 → WorkedAt o
 unfolding sheet_call_of
 sheet_call_worked l p t = by_outcome_lem (call_of l p).answer.outcome refl
@@ -125,20 +118,6 @@ segment_sheets l p t w p' t' r sheets e =
       told = λ z. let a = worked z in rw e (sheets.told a.sum a.is);
     }
 
--- the discharge call's, in numbers
-pub segment_discharges : (l p : List ℕ) (d : Discharged) (p' : List ℕ) (r : VolumesAnswer) → Calls l p d p' → r ≡ volumes_answer d → SegmentDischarges l p r p'
-segment_discharges l p d p' r calls e =
-    record {
-      answer = e ∙ ap volumes_answer calls.answer;
-      profile = calls.profile;
-      entries = rw e (go d calls);
-    }
-  where
-    go : (d : Discharged) → Calls l p d p' → (volumes_answer d).number ≡ 0 →
-        EntriesDischarge (segment_of l) (volumes_answer d).left (volumes_answer d).through (volumes_answer d).right p'
-    go (RefusedVolumes n) c z = absurd (let h = refused_above l (length p) n (sym c.answer) in omega arith)
-    go (Volumes left through right) c z = c.entries left through right refl
-
 abbrev pub part_of : TitleAnswer → List ℕ → List ℕ
 part_of t l = take t.length (drop t.place l)
 
@@ -150,8 +129,3 @@ title_answer_lem l n = go (title_part_of first_edition l n)
     go : (t : TitlePart) → part_of (title_answer t) l ≡ bytes_at l t
     go (NoPart m) = refl
     go (Part place size) = refl
-
--- a call that writes to a lent buffer, in numbers
-pub archive_writes : {x : Or (List ℕ)} {before : List ℕ} {a : Answer} {after : List ℕ} {r : ValueAnswer} → Writes x before a after → r ≡ value_answer a
-    → ArchiveWrites x before r after
-archive_writes w e = record { answer = e ∙ ap value_answer w.answer; buffer = w.buffer }

@@ -2,7 +2,7 @@
 use Rattle.std.specs.Prelude.{ℕ, ◌-◌, ◌≡◌, refl, List, [], ◌∷◌, ◌++◌}
 use Rattle.std.proofs.Common.{ap, append_assoc, append-nil}
 use Rattle.buffer.specs.Buffer.{Wrote}
-use Rattle.buffer.specs.Pieces.{ended_by}
+use Rattle.buffer.proofs.Pieces.{ended_by}
 use Rattle.page.specs.Page.{line, line_end, lines}
 
 pub line_ended : {b : List ℕ} {at : ℕ} {t b' : List ℕ} {p : ℕ} {b'' : List ℕ} {q : ℕ} →

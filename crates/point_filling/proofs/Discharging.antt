@@ -8,7 +8,7 @@ use lib.Seq.{take_at}
 use Rattle.limits.specs.Limits.{most_cycle}
 use Rattle.segment.specs.declared.Segment.{Segment}
 use Rattle.entries.specs.Entries.{entry_profiles}
-use Rattle.entries.specs.Laws.{entry_runs}
+use Rattle.entries.proofs.Laws.{entry_runs}
 use Rattle.points.specs.declared.Points.{Points}
 use Rattle.point_filling.specs.Steps.{FillFits, EachFits}
 

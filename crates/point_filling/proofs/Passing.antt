@@ -10,12 +10,13 @@ use Rattle.limits.specs.Limits.{most_running, step_bound}
 use Rattle.lists.specs.Lists.{tab, tab_length, tab_each_le, tab_constant}
 use Rattle.movements.specs.Movements.{flow_units}
 use Rattle.signal.specs.Turn.{earlier}
-use Rattle.signal.specs.Landing.{landing_is, added, added_tab}
+use Rattle.signal.specs.Landing.{added}
+use Rattle.signal.proofs.Landing.{landing_is, added_tab}
 use Rattle.segment.specs.declared.Entry.{Entry}
 use Rattle.segment.specs.declared.Segment.{Segment}
 use Rattle.ranges.specs.Ranges.{Ranges, EntryRanges}
 use Rattle.entries.specs.Entries.{entry_profile, EntryRuns}
-use Rattle.entries.specs.Laws.{entry_length, entry_le}
+use Rattle.entries.proofs.Laws.{entry_length, entry_le}
 use Rattle.dispersion.specs.Dispersion.{arrival_time_of, reported, held}
 use Rattle.dispersion.specs.Arrivals.{arrival_time_small}
 use Rattle.dispersion.specs.Cycles.{reported_length, reported_le}

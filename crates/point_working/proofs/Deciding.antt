@@ -13,7 +13,8 @@ use Rattle.ranges.specs.Ranges.{Ranges}
 use Rattle.validation.specs.declared.Checked.TheVariants as checked
 use Rattle.validation.specs.Validation.{checked_of}
 use Rattle.validation.specs.Accepted.{Accepted}
-use Rattle.validation.specs.Accepting.{checked_refused, checked_valid, accept_passed}
+use Rattle.validation.specs.Accepting.{checked_refused, checked_valid}
+use Rattle.validation.proofs.Accepting.{accept_passed}
 use Rattle.balance_decision.specs.declared.Outcome.{Outcome}
 use Rattle.balance_decision.specs.declared.Outcome.TheVariants.{Worked, Refused, Unsettled}
 use Rattle.propagation.specs.Propagation.{Profiles}
@@ -21,13 +22,14 @@ use Rattle.accuracy.specs.Accuracy.{Accurate}
 use Rattle.working_outcome.specs.declared.Working.{Working}
 use Rattle.working_outcome.specs.Answer.{refused_with}
 use Rattle.working.specs.Working.{fits, decision_for, Called, called, by_decision}
-use Rattle.working.specs.Decided.{fits_room, decided_accurate, own_case}
+use Rattle.working.specs.Decided.{fits_room, own_case}
+use Rattle.working.proofs.Decided.{decided_accurate}
 use Rattle.points.specs.declared.Points.{Points}
 use Rattle.points.specs.Points.{most_points, given}
 use Rattle.point_flows.specs.PointFlows.{point_runs, point_counts}
 use Rattle.point_filling.specs.Steps.{FillFits}
 use Rattle.point_flows.specs.PointAccuracy.{PointsAccurate}
-use Rattle.point_flows.specs.Holds.{points_accurate}
+use Rattle.point_flows.proofs.Holds.{points_accurate}
 use Rattle.point_working.specs.declared.PointWorking.{PointWorking}
 use Rattle.point_working.specs.PointWorking.{accept_of, none_blocked, answered, PointCalled, point_called, passing_after, counts_after, with_points}
 use Rattle.point_working.specs.PointWorking.{point_call_of, PointWorks}

@@ -5,16 +5,11 @@ use Rattle.std.proofs.lemmas.List.{length-map}
 use Rattle.limits.specs.Limits.{least_running, least_headway, most_headway}
 use Rattle.refusal.specs.Refusal.{both}
 use Rattle.points.specs.declared.Point.{Point}
-use Rattle.points.specs.declared.Points.{Points}
-use Rattle.points.specs.Points.{given, point_fits, all_fit}
+use Rattle.points.specs.Points.{point_fits, all_fit}
 
 -- an array of structs has as many as the array of what they are stored as
 pub mapped_length : {A B : Type 0} (f : A → B) (l : List A) {n : ℕ} → length (map f l) ≡ n → length l ≡ n
 mapped_length f l e = sym (length-map l f) ∙ e
-
-pub none_given : (ps : Points) → ps.count ≡ 0 → given ps ≡ []
-unfolding given
-none_given ps none = rw none
 
 -- the first n places, n no more than there are
 module _ (at : List Point) (n : ℕ) (room : n ≤ length at) where

@@ -1,2 +1,3 @@
 pub mod Spreading
 pub mod Filling
+pub mod Largest

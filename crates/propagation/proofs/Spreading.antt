@@ -10,7 +10,7 @@ use lib.Seq.{take_at}
 use Rattle.segment.specs.declared.Entry.{Entry}
 use Rattle.metering.specs.Metering.{discharge_units}
 use Rattle.entries.specs.Entries.{entry_profile}
-use Rattle.entries.specs.Laws.{entry_length, entry_le}
+use Rattle.entries.proofs.Laws.{entry_length, entry_le}
 use Rattle.dispersion.specs.declared.PlatoonState.{PlatoonState}
 use Rattle.dispersion.specs.Dispersion.{Work, work, arrival_time_of, reported, cycles_worked, last_part}
 use Rattle.dispersion.specs.Arrivals.{arrival_time_small}

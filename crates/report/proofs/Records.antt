@@ -8,7 +8,8 @@ use borrow.Author.Tests.{lt-ltb, le-ltb}
 use Rattle.limits.specs.Limits.{most_cycle}
 use Rattle.octets.specs.Octets.{word2, word4}
 use Rattle.buffer.specs.Buffer.{Wrote}
-use Rattle.buffer.specs.Pieces.{Appending, appending_start, appending_turn, appending_done}
+use Rattle.buffer.specs.Pieces.{Appending}
+use Rattle.buffer.proofs.Pieces.{appending_start, appending_turn, appending_done}
 use Rattle.segment.specs.declared.Segment.{Segment}
 use Rattle.segment.specs.Layout.{size, cycle_at}
 use Rattle.segment.specs.Segment.{segment_of}
@@ -16,7 +17,7 @@ use Rattle.propagation.specs.Propagation.{Profiles}
 use Rattle.propagation.specs.Steps.{Room, room_kept}
 use Rattle.working_outcome.specs.declared.Working.{Working}
 use Rattle.working.specs.Working.{Called, called, Works, call_of}
-use Rattle.working.specs.Ways.{call_worked}
+use Rattle.working.proofs.Ways.{call_worked}
 use Rattle.archive_format.specs.Archive.{decode, first_edition, next_at, filed_from}
 use Rattle.archive_open.specs.declared.Opened.TheVariants.{Invalid}
 use Rattle.archive_open.specs.Opening.{opened_of, invalid, Held, held_filed}

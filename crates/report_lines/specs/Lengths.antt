@@ -1,7 +1,7 @@
 -- How long the lines get.
 use Rattle.std.specs.Prelude.{ℕ, ◌+◌, ◌≤◌, List, length}
 use Rattle.std.proofs.Common.{arith, length-append}
-use Rattle.text.specs.Digits.{field_length}
+use Rattle.text.proofs.Digits.{field_length}
 use Rattle.exit_figures.specs.declared.ExitFigures.{ExitFigures}
 use Rattle.report_lines.specs.Lines.{record_label, cycle_label, shift_label, rounds_label, exit_label, green_label, permille_label}
 use Rattle.report_lines.specs.Lines.{blocked_label, of_label, refused_label, archive_label, letter_a}

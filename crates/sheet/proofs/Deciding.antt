@@ -9,13 +9,14 @@ use borrow.Author.Tests.{le-leb, lt-leb}
 use Rattle.refusal.specs.Refusal.{false_true}
 use Rattle.octets.specs.Octets.{word4}
 use Rattle.buffer.specs.Buffer.{Wrote}
-use Rattle.buffer.specs.Pieces.{wrote_fits}
+use Rattle.buffer.proofs.Pieces.{wrote_fits}
 use Rattle.segment.specs.declared.Segment.{Segment}
 use Rattle.segment.specs.Layout.{number_at}
 use Rattle.ranges.specs.Ranges.{Ranges}
 use Rattle.validation.specs.declared.Checked.TheVariants as checked
 use Rattle.validation.specs.Validation.{checked_of}
-use Rattle.validation.specs.Accepting.{checked_valid, accept_passed}
+use Rattle.validation.specs.Accepting.{checked_valid}
+use Rattle.validation.proofs.Accepting.{accept_passed}
 use Rattle.balance_decision.specs.declared.Outcome.TheVariants.{Worked, Refused, Unsettled}
 use Rattle.balance_decision.specs.declared.Decision.{Decision}
 use Rattle.accuracy.specs.Accuracy.{Accurate}
@@ -23,15 +24,18 @@ use Rattle.propagation.specs.Propagation.{Profiles}
 use Rattle.propagation.specs.Steps.{Room}
 use Rattle.working_outcome.specs.declared.Working.{Working}
 use Rattle.working_outcome.specs.Answer.{refused_with}
-use Rattle.working.specs.Working.{accept_of, decision_for, Called, called, by_outcome, by_decision, decided_outcome}
-use Rattle.working.specs.Decided.{Decided, decided_accurate}
-use Rattle.working.specs.Ways.{accept_for, call_passed, call_accepted, call_refused}
+use Rattle.working.specs.Working.{accept_of, decision_for, Called, called, by_outcome, by_decision}
+use Rattle.working.proofs.Working.{decided_outcome}
+use Rattle.working.specs.Decided.{Decided}
+use Rattle.working.proofs.Decided.{decided_accurate}
+use Rattle.working.proofs.Ways.{accept_for, call_passed, call_accepted, call_refused}
 use Rattle.page.specs.Page.{page_room}
 use Rattle.sheet_page.specs.SheetPage.{worked_page}
-use Rattle.sheet_page.specs.Pages.{worked_long}
+use Rattle.sheet_page.proofs.Pages.{worked_long}
 use Rattle.sheet.specs.Sheet.{SheetCalled, sheet_called, printed, sheet_by, sheet_call_of, Sheets}
 use Rattle.sheet.specs.Sized.{sheet_sized}
-use Rattle.sheet.specs.Laws.{beneath, page_laid_out, page_told}
+use Rattle.sheet.specs.Laws.{page_laid_out, page_told}
+use Rattle.sheet.proofs.Laws.{beneath}
 
 -- ---- filling what is decided to work
 

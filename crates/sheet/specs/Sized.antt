@@ -14,7 +14,7 @@ use Rattle.propagation.specs.Propagation.{Profiles, flow_at}
 use Rattle.working_outcome.specs.Answer.{run_of}
 use Rattle.working_outcome.specs.Filled.{filled_run}
 use Rattle.working.specs.Working.{decision_for, by_outcome, call_of}
-use Rattle.working.specs.Ways.{call_worked}
+use Rattle.working.proofs.Ways.{call_worked}
 use Rattle.working.specs.Sizes.{ExitSized, worked_sized, run_sized}
 use Rattle.sheet_page.specs.Fits.{ExitFits, SheetFits}
 

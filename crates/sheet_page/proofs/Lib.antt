@@ -1,2 +1,5 @@
 pub mod Lines
 pub mod Outcomes
+pub mod Fits
+pub mod Pages
+pub mod Told

@@ -5,12 +5,13 @@ use Rattle.std.proofs.Math.ListN.{drop_of_length-le}
 use Rattle.std.proofs.Math.Seq.{length-take-le}
 use Rattle.std.proofs.lemmas.List.{take_all}
 use Rattle.buffer.specs.Buffer.{Wrote}
-use Rattle.buffer.specs.Pieces.{◌then◌}
+use Rattle.buffer.proofs.Pieces.{◌then◌}
 use Rattle.working_outcome.specs.declared.Working.{Working}
 use Rattle.text.specs.Text.{columns}
 use Rattle.page.specs.Page.{page_lines, line, lines, blank_lines, page}
 use Rattle.page.specs.Laws.{lines_append}
-use Rattle.sheet_page.specs.Fits.{flow_lines_count, head_lines_count}
+use Rattle.sheet_page.specs.Fits.{head_lines_count}
+use Rattle.sheet_page.proofs.Fits.{flow_lines_count}
 use Rattle.sheet_page.specs.SheetPage.{flow_width, flow_unit, row_steps, rows_for, flow_lines, head_lines, sheet_lines, worked_page}
 
 -- ---- a run

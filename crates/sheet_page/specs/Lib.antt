@@ -3,5 +3,4 @@
 pub mod SheetPage
 pub mod Fits
 pub mod Told
-pub mod Pages
 pub mod Example

@@ -11,7 +11,8 @@ use Rattle.segment.specs.declared.Segment.{Segment}
 use Rattle.ranges.specs.Ranges.{Ranges}
 use Rattle.validation.specs.declared.Checked.TheVariants as checked
 use Rattle.validation.specs.Validation.{checked_of}
-use Rattle.metering.specs.Metering.{discharge_volumes, discharge_volume_entry}
+use Rattle.metering.specs.Metering.{discharge_volumes}
+use Rattle.metering.proofs.Metering.{discharge_volume_entry}
 use Rattle.balance_pairs.specs.Pairs.{WithinLimit}
 use Rattle.balance_decision.specs.declared.Outcome.TheVariants.{Worked, Refused, Unsettled}
 use Rattle.balance_decision.specs.declared.Decision.{Decision}
@@ -24,8 +25,9 @@ use Rattle.working_outcome.specs.declared.Working.{Working}
 use Rattle.working_outcome.specs.Answer.{refused_with, worked_of}
 use Rattle.working_outcome.specs.Filled.{Filled}
 use Rattle.working.specs.Working.{decision_for, called, by_outcome, by_decision, Works}
-use Rattle.working.specs.Decided.{Decided, rows_fit, decided_accurate}
-use Rattle.working.specs.Ways.{accept_for, call_passed, call_accepted, call_refused}
+use Rattle.working.specs.Decided.{Decided, rows_fit}
+use Rattle.working.proofs.Decided.{decided_accurate}
+use Rattle.working.proofs.Ways.{accept_for, call_passed, call_accepted, call_refused}
 
 -- ---- what the volumes decide
 

@@ -1,7 +1,7 @@
 -- What stands on the working of an accepted record: the room that its test leaves, what its filling asks, pair flows that fit their entries,
 -- demand 3 of what was worked, and that a refusal of a record or a call is told by its number.
 use Rattle.std.specs.Prelude.{ℕ, zero, suc, ◌*◌, ◌≤◌, ◌<◌, Bool, true, not, ◌&&◌, ◌≡◌, refl, List, [], ◌∷◌, leb, eqb, Float, length, get_or}
-use Rattle.std.proofs.Common.{arith, ap, sym, ◌∙◌, leb-true}
+use Rattle.std.proofs.Common.{arith, ◌∙◌, leb-true}
 use Rattle.std.proofs.lemmas.Bool.{not-true}
 use Rattle.refusal.specs.Refusal.{refused, both, Test, each}
 use Rattle.lists.specs.Lists.{sum}
@@ -9,24 +9,20 @@ use Rattle.movements.specs.declared.Counts.{Counts}
 use Rattle.movements.specs.Movements.{flow_units}
 use Rattle.segment.specs.declared.Segment.{Segment}
 use Rattle.ranges.specs.Ranges.{Ranges}
-use Rattle.validation.specs.Accepting.{accept_with, accept_numbers}
+use Rattle.validation.specs.Accepting.{accept_with}
+use Rattle.validation.proofs.Accepting.{accept_numbers}
 use Rattle.balance_flows.specs.declared.Flows.{Flows}
 use Rattle.balance_flows.specs.declared.FlowTable.{FlowTable}
 use Rattle.balance_flows.specs.Flows.{zero64}
 use Rattle.metering.specs.Metering.{discharge_volumes, discharge_units}
 use Rattle.balance_pairs.specs.Pairs.{pair_row, pair_rows, row_adds_lem}
-use Rattle.balance_decision.specs.declared.Outcome.{Outcome}
 use Rattle.balance_decision.specs.declared.Outcome.TheVariants.{Worked, Refused}
 use Rattle.balance_decision.specs.declared.Decision.{Decision}
 use Rattle.balance_decision.specs.Outcome.{outcome_of, refusal_of}
 use Rattle.balance_decision.specs.Meaning.{from_cells}
-use Rattle.propagation.specs.Propagation.{Profiles, filled_of}
+use Rattle.propagation.specs.Propagation.{Profiles}
 use Rattle.propagation.specs.Steps.{Room, RowsFit}
-use Rattle.accuracy.specs.Accuracy.{Accurate}
-use Rattle.accuracy.specs.Holds.{filled_accurate}
-use Rattle.working_outcome.specs.declared.Working.{Working}
-use Rattle.working_outcome.specs.Answer.{worked_of}
-use Rattle.working.specs.Working.{fits, decision_for, Called, called, by_outcome, by_decision, decided_outcome}
+use Rattle.working.specs.Working.{fits, decision_for}
 
 -- profiles that pass the test of their lengths have room
 pub fits_room : (s : Segment) (p : Profiles) → fits (length p.output) (length p.first) (length p.second) s ≡ true → Room s.cycle p
@@ -76,19 +72,6 @@ rows_fit s e =
       right = row_le c.right (discharge_units s.cycle s.right);
       access = row_le c.access (flow_units s.access);
     })
-
--- ---- demand 3 of whatever is worked
-
-pub decided_accurate : (s : Segment) → Ranges s → (p : Profiles) (w : Working) (p' : Profiles) → called w p' ≡ by_decision s (decision_for s) p →
-    (x : Float) → w.outcome ≡ Worked x → Accurate s w.pairs.rows p'
-unfolding worked_of
-decided_accurate s r p w p' q x ew =
-    let d = decision_for s in
-    let eo : d.outcome ≡ Worked x = sym (ap (λ (c : Called). c.answer.outcome) q ∙ decided_outcome s d p) ∙ ew in
-    let worked : called w p' ≡ by_outcome (Worked x) s d p = q ∙ ap (λ (o : Outcome). by_outcome o s d p) eo in
-    let rows : w.pairs.rows ≡ d.pairs.rows = ap (λ (c : Called). c.answer.pairs.rows) worked in
-    let left : p' ≡ filled_of s d.pairs.rows p = ap (λ (c : Called). c.after) worked in
-    rw (rows, left) (filled_accurate s d.pairs.rows p r (rows_fit s (ap refusal_of eo)))
 
 -- ---- the refusals of the record, and of a call's own tests
 

@@ -16,10 +16,12 @@ use Rattle.balance_decision.specs.Meaning.{decision_rounds}
 use Rattle.dispersion.specs.Arrivals.{arrival_time_small}
 use Rattle.exit_figures.specs.declared.ExitFigures.{ExitFigures}
 use Rattle.exit_figures.specs.ExitFigures.{green_flow, figures_of}
-use Rattle.exit_figures.specs.Laws.{green_flow_le, permille_le}
+use Rattle.exit_figures.specs.Laws.{green_flow_le}
+use Rattle.exit_figures.proofs.Laws.{permille_le}
 use Rattle.propagation.specs.Propagation.{pair_flow, flow_at}
 use Rattle.propagation.specs.Steps.{RowsFit}
-use Rattle.propagation.specs.Largest.{largest_flow, pair_flow_le, flow_le}
+use Rattle.propagation.specs.Largest.{largest_flow}
+use Rattle.propagation.proofs.Largest.{pair_flow_le, flow_le}
 use Rattle.working_outcome.specs.declared.Working.{Working}
 use Rattle.working_outcome.specs.Answer.{run_of, worked_of}
 use Rattle.working.specs.Working.{decision_for}

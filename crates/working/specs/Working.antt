@@ -1,5 +1,5 @@
 -- The working of a segment record over three lent profiles: what it answers and leaves in them, on every way.
-use Rattle.std.specs.Prelude.{ℕ, ◌*◌, Bool, ◌&&◌, ◌≡◌, refl, List, [], ◌∷◌, leb, Float, length}
+use Rattle.std.specs.Prelude.{ℕ, ◌*◌, Bool, ◌&&◌, ◌≡◌, List, [], ◌∷◌, leb, Float, length}
 use Rattle.refusal.specs.Refusal.{Or, refused, ok, test}
 use Rattle.segment.specs.declared.Segment.{Segment}
 use Rattle.segment.specs.Segment.{segment_of}
@@ -44,16 +44,6 @@ by_outcome (Unsettled sum) s d p = called (refused_with (Unsettled sum)) p
 
 abbrev pub by_decision : Segment → Decision → Profiles → Called
 by_decision s d p = by_outcome d.outcome s d p
-
--- the answer tells what was decided
-pub decided_outcome : (s : Segment) (d : Decision) (p : Profiles) → (by_decision s d p).answer.outcome ≡ d.outcome
-unfolding worked_of
-decided_outcome s d p = go d.outcome
-  where
-    go : (o : Outcome) → (by_outcome o s d p).answer.outcome ≡ o
-    go (Worked sum) = refl
-    go (Refused number) = refl
-    go (Unsettled sum) = refl
 
 abbrev pub by_record : Or Segment → Profiles → Called
 by_record (refused n) p = called (refused_with (outcome_of n zero64)) p

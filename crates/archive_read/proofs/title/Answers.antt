@@ -1,7 +1,7 @@
 -- A title is the part of the archive that `title_part` answered: it lies in the archive, and is empty where finding refuses.
 use Rattle.std.proofs.Common.{arith, sym}
 use Rattle.archive_format.specs.Archive.{first_edition}
-use Rattle.archive_format.specs.Finding.{part_within}
+use Rattle.archive_format.proofs.Finding.{part_within}
 use Rattle.archive_read.proofs.Answers.{title_found, title_none}
 use Rattle.archive_read.proofs.title.Goals as goal
 

@@ -1,5 +1,5 @@
 use Rattle.std.proofs.Common.{add-one, drop-cons, drop_of_length-le, arith}
-use Rattle.signal.specs.Adding.{adding_done}
+use Rattle.signal.proofs.Adding.{adding_done}
 use Rattle.arrivals.proofs.Landing.{lands_pos, lands_le, at_within, landing_turn}
 use Rattle.arrivals.proofs.add_whole.Goals as goal
 

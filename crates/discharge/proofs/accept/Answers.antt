@@ -1,6 +1,6 @@
 -- The record's refusals, then 16 where three cycles do not fit the room.
 use Rattle.std.proofs.Common.{◌*◌, ◌<◌, arith}
-use Rattle.validation.specs.Ladder.{ladder}
+use Rattle.validation.proofs.Ladder.{ladder}
 use Rattle.discharge.proofs.accept.Goals as goal
 
 pub returns-in-Refused : goal.returns-in-Refused

@@ -1,5 +1,5 @@
 -- The first of the blank lines left is put.
-use Rattle.buffer.specs.Pieces.{appending_start, appending_turn, appending_done}
+use Rattle.buffer.proofs.Pieces.{appending_start, appending_turn, appending_done}
 use Rattle.page.proofs.Blank.{blank_first, blank_none}
 use Rattle.page.proofs.blank_lines.Goals as goal
 

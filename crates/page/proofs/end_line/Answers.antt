@@ -1,5 +1,5 @@
 -- The blanks that the text lacks of the line's width are put, then the newline.
-use Rattle.buffer.specs.Pieces.{◌then◌}
+use Rattle.buffer.proofs.Pieces.{◌then◌}
 use Rattle.page.proofs.end_line.Goals as goal
 
 pub returns : goal.returns

@@ -1,6 +1,6 @@
 -- The step's place lies in the run, and nothing was added there yet.
 use Rattle.std.proofs.Common.{arith}
-use Rattle.signal.specs.Greens.{green_pos}
+use Rattle.signal.proofs.Greens.{green_pos}
 use Rattle.platoon.proofs.Serving.{serving_start, step_within, step_empty, serving_turn, serving_done}
 use Rattle.platoon.proofs.release.Goals as goal
 

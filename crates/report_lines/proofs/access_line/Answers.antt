@@ -1,5 +1,5 @@
 -- What the calls wrote, one after another, is the line: the field of the total and its end.
-use Rattle.buffer.specs.Pieces.{◌then◌}
+use Rattle.buffer.proofs.Pieces.{◌then◌}
 use Rattle.report_lines.specs.Lines.{access_line}
 use Rattle.report_lines.proofs.access_line.Goals as goal
 

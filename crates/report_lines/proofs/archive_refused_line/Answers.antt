@@ -1,5 +1,5 @@
 -- What the calls wrote, one after another, is the line: the field of the refusal and its end.
-use Rattle.buffer.specs.Pieces.{◌then◌}
+use Rattle.buffer.proofs.Pieces.{◌then◌}
 use Rattle.report_lines.specs.Lines.{archive_refused_line}
 use Rattle.report_lines.proofs.archive_refused_line.Goals as goal
 

@@ -1,5 +1,5 @@
 -- What the calls wrote, one after another, is the line: its two fields and its end.
-use Rattle.buffer.specs.Pieces.{◌then◌}
+use Rattle.buffer.proofs.Pieces.{◌then◌}
 use Rattle.report_lines.specs.Lines.{blocked_line}
 use Rattle.report_lines.proofs.blocked_line.Goals as goal
 

@@ -1,5 +1,5 @@
 -- What the calls wrote, one after another, is the line: its words and its end.
-use Rattle.buffer.specs.Pieces.{◌then◌}
+use Rattle.buffer.proofs.Pieces.{◌then◌}
 use Rattle.report_lines.specs.Lines.{record_line}
 use Rattle.report_lines.proofs.record_line.Goals as goal
 

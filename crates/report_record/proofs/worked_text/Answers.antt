@@ -1,5 +1,5 @@
 -- What the six calls wrote, one after another, is the text.
-use Rattle.buffer.specs.Pieces.{◌then◌}
+use Rattle.buffer.proofs.Pieces.{◌then◌}
 use Rattle.report_record.specs.Record.{worked_text}
 use Rattle.report_record.proofs.worked_text.Goals as goal
 

@@ -1,5 +1,5 @@
 -- The words, and the line's end by the places that they took.
-use Rattle.buffer.specs.Pieces.{wrote_on}
+use Rattle.buffer.proofs.Pieces.{wrote_on}
 use Rattle.page.specs.Laws.{line_ended}
 use Rattle.sheet_page.proofs.exit_line.Goals as goal
 

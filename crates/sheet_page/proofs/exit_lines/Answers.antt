@@ -1,6 +1,6 @@
 -- What the three calls wrote, one after another, are the lines.
 use Rattle.std.proofs.Common.{append_assoc, append-nil}
-use Rattle.buffer.specs.Pieces.{◌then◌}
+use Rattle.buffer.proofs.Pieces.{◌then◌}
 use Rattle.page.specs.Page.{lines}
 use Rattle.sheet_page.proofs.exit_lines.Goals as goal
 

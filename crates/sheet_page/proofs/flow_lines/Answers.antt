@@ -1,6 +1,6 @@
 -- The next row is the front of those of the steps left.
 use Rattle.std.proofs.Common.{arith}
-use Rattle.buffer.specs.Pieces.{appending_start, appending_turn, appending_done}
+use Rattle.buffer.proofs.Pieces.{appending_start, appending_turn, appending_done}
 use Rattle.sheet_page.proofs.Lines.{run_from, run_none}
 use Rattle.sheet_page.proofs.flow_lines.Goals as goal
 

@@ -1,5 +1,5 @@
 -- The record's line, its pair flows and its exits.
-use Rattle.buffer.specs.Pieces.{◌then◌}
+use Rattle.buffer.proofs.Pieces.{◌then◌}
 use Rattle.page.specs.Laws.{line_alone, lines_append}
 use Rattle.sheet_page.specs.SheetPage.{head_lines}
 use Rattle.sheet_page.proofs.head_lines.Goals as goal

@@ -1,6 +1,6 @@
 -- What the four calls wrote, one after another, are the lines.
 use Rattle.std.proofs.Common.{append_assoc, append-nil}
-use Rattle.buffer.specs.Pieces.{◌then◌}
+use Rattle.buffer.proofs.Pieces.{◌then◌}
 use Rattle.page.specs.Page.{lines}
 use Rattle.sheet_page.proofs.pair_lines.Goals as goal
 

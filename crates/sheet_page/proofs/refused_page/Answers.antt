@@ -1,5 +1,5 @@
 -- The record's line, and blank lines.
-use Rattle.buffer.specs.Pieces.{◌then◌, wrote_on}
+use Rattle.buffer.proofs.Pieces.{◌then◌, wrote_on}
 use Rattle.page.specs.Page.{page}
 use Rattle.page.specs.Laws.{line_ended, line_alone}
 use Rattle.sheet_page.specs.SheetPage.{refused_page}

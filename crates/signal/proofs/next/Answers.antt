@@ -1,6 +1,6 @@
 -- By the test: the number after, or past the last step the first.
 use Rattle.std.proofs.Common.{arith, sym}
-use Rattle.signal.specs.Turn.{turn_same, turn_first}
+use Rattle.signal.proofs.Turn.{turn_same, turn_first}
 use Rattle.signal.proofs.next.Goals as goal
 
 pub returns-then-s-c : goal.returns-then-s-c

@@ -1,6 +1,6 @@
 -- The column of the next number is the front of those left.
 use Rattle.std.proofs.Common.{arith}
-use Rattle.buffer.specs.Pieces.{appending_start, appending_turn, appending_done}
+use Rattle.buffer.proofs.Pieces.{appending_start, appending_turn, appending_done}
 use Rattle.text.proofs.Columns.{columns_from, columns_none}
 use Rattle.text.proofs.append_columns.Goals as goal
 

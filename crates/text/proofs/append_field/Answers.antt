@@ -1,6 +1,6 @@
 -- The label is put, then the number.
 use Rattle.text.specs.Text.{field}
-use Rattle.buffer.specs.Pieces.{◌then◌}
+use Rattle.buffer.proofs.Pieces.{◌then◌}
 use Rattle.text.proofs.append_field.Goals as goal
 
 pub returns : goal.returns

@@ -1,6 +1,6 @@
 -- Each return by the tests found before it, in the definition's order.
 use Rattle.validation.specs.Validation.{check_of}
-use Rattle.validation.specs.Ladder.{ladder}
+use Rattle.validation.proofs.Ladder.{ladder}
 use Rattle.validation.proofs.check.Goals as goal
 
 pub returns-then-bytes-ne-SIZE : goal.returns-then-bytes-ne-SIZE

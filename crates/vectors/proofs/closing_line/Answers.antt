@@ -1,5 +1,5 @@
 -- What the three calls wrote, one after another, is the closing line.
-use Rattle.buffer.specs.Pieces.{◌then◌}
+use Rattle.buffer.proofs.Pieces.{◌then◌}
 use Rattle.vectors.specs.Vectors.{closing_line}
 use Rattle.vectors.proofs.closing_line.Goals as goal
 

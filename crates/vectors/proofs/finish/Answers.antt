@@ -1,6 +1,6 @@
 -- What is written is the part of the buffer that holds the line.
 use Rattle.std.proofs.Common.{sym, length-take-le, arith}
-use Rattle.buffer.specs.Pieces.{wrote_within}
+use Rattle.buffer.proofs.Pieces.{wrote_within}
 use Rattle.vectors.proofs.finish.Goals as goal
 
 pub slice_bounds-write_all-end : goal.slice_bounds-write_all-end

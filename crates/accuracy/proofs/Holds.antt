@@ -1,30 +1,33 @@
--- Demand 3 holds of every filling: its parts are the laws of exact and pair_parts, at the definitions of the working.
+-- Laws of specs/Holds.antt: Demand 3 holds of every filling: its parts are the laws of exact and pair_parts, at the definitions of the working.
 use Prim.Native.Nat.{ℕ, suc, ◌+◌, ◌-◌, ◌*◌, ◌≤◌, ◌<◌}
 use native.Mathlib.Omega.{arith}
 use Rattle.std.specs.Prelude.{◌≡◌, List, ◌++◌, take, drop}
 use Rattle.std.proofs.Math.Path.{refl, sym}
 use Rattle.std.proofs.Common.{ap, ◌∙◌, take_at}
 use Rattle.std.proofs.Math.ListN.{length, get_or}
-use Rattle.signal.specs.Turn.{earlier, earlier_pos, earlier_le}
-use Rattle.signal.specs.Landing.{landing_is}
+use Rattle.signal.specs.Turn.{earlier}
+use Rattle.signal.proofs.Turn.{earlier_pos, earlier_le}
+use Rattle.signal.proofs.Landing.{landing_is}
 use Rattle.segment.specs.declared.Entry.{Entry}
 use Rattle.segment.specs.declared.Segment.{Segment}
 use Rattle.ranges.specs.Ranges.{Ranges}
 use Rattle.metering.specs.Metering.{discharge_units}
 use Rattle.entries.specs.Entries.{entry_profile}
-use Rattle.entries.specs.Laws.{entry_length}
+use Rattle.entries.proofs.Laws.{entry_length}
 use Rattle.dispersion.specs.Dispersion.{arrival_time_of, reported}
 use Rattle.dispersion.specs.Cycles.{reported_length}
-use Rattle.pair_parts.specs.Laws.{pair_length, pair_shared}
+use Rattle.pair_parts.proofs.Laws.{pair_length, pair_shared}
 use Rattle.exact.specs.Fraction.{WithinParts, parts_whole}
-use Rattle.exact.specs.Exit.{pair_within, exit_within}
+use Rattle.exact.specs.Exit.{pair_within}
+use Rattle.exact.proofs.Exit.{exit_within}
 use Rattle.exact_dispersion.specs.ExactDispersion.{ExactFlow, Near, arrived, last_arrival}
-use Rattle.exact_dispersion.specs.Laws.{entry_balanced, arrived_last}
+use Rattle.exact_dispersion.proofs.Laws.{entry_balanced, arrived_last}
 use Rattle.arrivals.specs.Laws.{number_of}
 use Rattle.propagation.specs.Propagation.{Profiles, cycles_before, cycles, pair_flow, entry_arrivals, pair_of, lands_in, flow_at, filled_of}
 use Rattle.propagation.specs.Steps.{RowsFit}
 use Rattle.accuracy.specs.Accuracy.{exact_of, exact_at, output_at, last_cycle_in, arrived_in, EntryMeets, FlowsWithin, Accurate}
-use Rattle.accuracy.specs.Near.{EntriesNear, entries_empty, entries_repeating}
+use Rattle.accuracy.specs.Near.{EntriesNear}
+use Rattle.accuracy.proofs.Near.{entries_empty, entries_repeating}
 
 module _ (s : Segment) (e : Entry) where
   arrivals_length : length (entry_arrivals s e) ≡ s.cycle

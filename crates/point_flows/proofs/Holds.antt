@@ -1,5 +1,4 @@
--- Every point's run is near the exact flows: what lands is as near as the arrivals of its entry, and three entries are added. The laws
--- take the exact flow of an entry and its distance as parameters.
+-- Laws of specs/Holds.antt.
 use Prim.Native.Nat.{ℕ, suc, ◌+◌, ◌-◌, ◌*◌, ◌≤◌, ◌<◌}
 use native.Mathlib.Omega.{arith}
 use Rattle.std.specs.Prelude.{true, ◌≡◌, refl, List, take}
@@ -7,25 +6,27 @@ use Rattle.std.proofs.Math.Path.{ap}
 use Rattle.std.proofs.Math.ListN.{length}
 use Rattle.limits.specs.Limits.{most_running}
 use Rattle.movements.specs.Movements.{flow_units}
-use Rattle.signal.specs.Turn.{earlier, earlier_pos, earlier_le}
+use Rattle.signal.specs.Turn.{earlier}
+use Rattle.signal.proofs.Turn.{earlier_pos, earlier_le}
 use Rattle.segment.specs.declared.Entry.{Entry}
 use Rattle.segment.specs.declared.Segment.{Segment}
 use Rattle.ranges.specs.Ranges.{Ranges}
 use Rattle.entries.specs.Entries.{entry_profile}
-use Rattle.entries.specs.Laws.{entry_length}
+use Rattle.entries.proofs.Laws.{entry_length}
 use Rattle.dispersion.specs.Dispersion.{arrival_time_of}
 use Rattle.exact.specs.Fraction.{WithinParts, parts_whole}
-use Rattle.exact.specs.Exit.{exit_within}
+use Rattle.exact.proofs.Exit.{exit_within}
 use Rattle.exact_dispersion.specs.ExactDispersion.{ExactFlow, Near}
 use Rattle.propagation.specs.Propagation.{cycles}
-use Rattle.accuracy.specs.Near.{EntriesNear, entries_empty, entries_repeating}
+use Rattle.accuracy.specs.Near.{EntriesNear}
+use Rattle.accuracy.proofs.Near.{entries_empty, entries_repeating}
 use Rattle.points.specs.declared.Point.{Point}
 use Rattle.points.specs.declared.Points.{Points}
 use Rattle.points.specs.Points.{given, all_fit}
 use Rattle.points.specs.Laws.{front_length, front_at, all_far}
 use Rattle.point_flows.specs.PointFlows.{point_arrivals, passes_in, point_flow, point_runs}
 use Rattle.point_flows.specs.PointAccuracy.{exact_point, no_point, point_at, PointsWithin, PointsAccurate}
-use Rattle.point_flows.specs.Laws.{passes_is, point_number}
+use Rattle.point_flows.proofs.Laws.{passes_is, point_number}
 
 module _ {u d : ℕ} {exact : ExactFlow} (s : Segment) (p : Point) where
   -- what of an entry lands in a step is as near as its arrivals

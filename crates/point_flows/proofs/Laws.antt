@@ -1,14 +1,14 @@
--- Laws of the points' runs: each number of each run, the numbers beyond, none of no points, and what of an entry lands in a step.
+-- Laws of specs/Laws.antt: Laws of the points' runs: each number of each run, the numbers beyond, none of no points, and what of an entry lands in a step.
 use Rattle.std.specs.Prelude.{ℕ, zero, suc, ◌+◌, ◌-◌, ◌*◌, ◌≤◌, ◌<◌, ◌≡◌, refl, List, [], ◌∷◌, ◌++◌, length, drop, get_or, replicate}
 use Rattle.std.proofs.Common.{arith, ap, sym, ◌∙◌, drop_at, drop-drop}
 use Rattle.lists.specs.Lists.{tab_length, tab_at, number_at}
 use Rattle.runs.specs.Runs.{run_at, run_first, run_behind}
 use Rattle.runs.specs.PerRun.{per_run}
 use Rattle.signal.specs.Turn.{earlier}
-use Rattle.signal.specs.Landing.{landing_is}
+use Rattle.signal.proofs.Landing.{landing_is}
 use Rattle.segment.specs.declared.Entry.{Entry}
 use Rattle.segment.specs.declared.Segment.{Segment}
-use Rattle.entries.specs.Laws.{entry_length}
+use Rattle.entries.proofs.Laws.{entry_length}
 use Rattle.dispersion.specs.Dispersion.{arrival_time_of}
 use Rattle.dispersion.specs.Cycles.{reported_length}
 use Rattle.propagation.specs.Propagation.{cycles_before}

@@ -1,4 +1,4 @@
--- A record's page reads the output by its through run alone, and has the bytes of a page.
+-- Laws of specs/Pages.antt: A record's page reads the output by its through run alone, and has the bytes of a page.
 use Rattle.std.specs.Prelude.{ℕ, ◌^◌, ◌<◌, ◌≡◌, refl, List, Float, length}
 use Rattle.std.proofs.Common.{arith, ap}
 use Rattle.runs.specs.Runs.{run_at}
@@ -7,9 +7,11 @@ use Rattle.balance_decision.specs.declared.Outcome.TheVariants.{Worked, Refused,
 use Rattle.balance_decision.specs.Outcome.{refusal_of}
 use Rattle.working_outcome.specs.declared.Working.{Working}
 use Rattle.page.specs.Page.{page_room, page}
-use Rattle.page.specs.Laid.{none, one, page_length}
+use Rattle.page.specs.Laid.{none, one}
+use Rattle.page.proofs.Laid.{page_length}
 use Rattle.sheet_page.specs.SheetPage.{sheet_lines, worked_page, refused_page, page_by, record_page}
-use Rattle.sheet_page.specs.Fits.{SheetFits, refused_fits, sheet_fits, sheet_count}
+use Rattle.sheet_page.specs.Fits.{SheetFits, refused_fits}
+use Rattle.sheet_page.proofs.Fits.{sheet_fits, sheet_count}
 
 pub page_through : (number cycle : ℕ) (w : Working) (out out' : List ℕ) →
     ((x : Float) → w.outcome ≡ Worked x → run_at cycle 1 out ≡ run_at cycle 1 out') → record_page number cycle w out ≡ record_page number cycle w out'

@@ -1,4 +1,4 @@
--- What the call says where it works: the working beneath it, as called, and the page; and what the page then looks like.
+-- Laws of specs/Laws.antt: What the call says where it works: the working beneath it, as called, and the page; and what the page then looks like.
 use Rattle.std.specs.Prelude.{ℕ, ◌<◌, Bool, true, false, cond, ◌≡◌, List, ◌++◌, leb, Float, length, drop, get_or}
 use Rattle.std.proofs.Math.Path.{refl}
 use Rattle.std.proofs.Common.{ap, sym, subst, ◌∙◌}
@@ -13,10 +13,13 @@ use Rattle.propagation.specs.Propagation.{Profiles, pair_flow}
 use Rattle.working_outcome.specs.declared.Working.{Working}
 use Rattle.working.specs.Working.{Called, called, call_of, Works}
 use Rattle.page.specs.Page.{page_room}
-use Rattle.page.specs.Laid.{Laid, page_laid}
+use Rattle.page.specs.Laid.{Laid}
+use Rattle.page.proofs.Laid.{page_laid}
 use Rattle.sheet_page.specs.SheetPage.{worked_page}
-use Rattle.sheet_page.specs.Fits.{SheetFits, sheet_fits, sheet_count}
-use Rattle.sheet_page.specs.Told.{Told, sheet_told}
+use Rattle.sheet_page.specs.Fits.{SheetFits}
+use Rattle.sheet_page.proofs.Fits.{sheet_fits, sheet_count}
+use Rattle.sheet_page.specs.Told.{Told}
+use Rattle.sheet_page.proofs.Told.{sheet_told}
 use Rattle.sheet.specs.Sheet.{SheetCalled, sheet_called, printed, no_room, sheet_by, sheet_call_of, Sheets}
 use Rattle.sheet.specs.Sized.{called_sized}
 

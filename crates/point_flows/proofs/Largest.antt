@@ -1,4 +1,4 @@
--- The largest flow past a point, and a point at the end of the segment.
+-- Laws of specs/Largest.antt: The largest flow past a point, and a point at the end of the segment.
 use Rattle.std.specs.Prelude.{ℕ, ◌≤◌, ◌<◌, ◌≡◌}
 use Rattle.std.proofs.Common.{arith}
 use Rattle.limits.specs.Limits.{flow_limit}
@@ -7,13 +7,13 @@ use Rattle.segment.specs.declared.Entry.{Entry}
 use Rattle.segment.specs.declared.Segment.{Segment}
 use Rattle.ranges.specs.Ranges.{Ranges, EntryRanges}
 use Rattle.entries.specs.Entries.{entry_profile}
-use Rattle.entries.specs.Laws.{entry_le}
+use Rattle.entries.proofs.Laws.{entry_le}
 use Rattle.dispersion.specs.Cycles.{reported_le}
 use Rattle.propagation.specs.Propagation.{cycles, entry_arrivals}
 use Rattle.propagation.specs.Largest.{largest_flow}
 use Rattle.points.specs.declared.Point.{Point}
 use Rattle.point_flows.specs.PointFlows.{point_arrivals, passes_in, point_flow}
-use Rattle.point_flows.specs.Laws.{passes_is}
+use Rattle.point_flows.proofs.Laws.{passes_is}
 
 module _ (s : Segment) (p : Point) (e : Entry) where
   passes_le : (step : ℕ) → EntryRanges s.cycle e → 0 < step → step ≤ s.cycle → passes_in s p e step ≤ flow_units flow_limit

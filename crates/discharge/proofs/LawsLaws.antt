@@ -1,14 +1,14 @@
--- Of every accepted record each entry's run in the profile is its discharge, at the volume answered; no refusal has the number 0.
+-- Laws of specs/Laws.antt: Of every accepted record each entry's run in the profile is its discharge, at the volume answered; no refusal has the number 0.
 use Rattle.std.specs.Prelude.{ℕ, ◌<◌, ◌≡◌, refl, List, ltb, length}
 use Rattle.std.proofs.Common.{ap, ◌∙◌, ltb-true}
 use Rattle.refusal.specs.Refusal.{Or, refused, ok, false_true}
 use Rattle.segment.specs.declared.Segment.{Segment}
 use Rattle.segment.specs.Segment.{segment_of}
 use Rattle.ranges.specs.Ranges.{Ranges}
-use Rattle.validation.specs.Accepting.{accept_passed, accept_numbers}
+use Rattle.validation.proofs.Accepting.{accept_passed, accept_numbers}
 use Rattle.metering.specs.Metering.{discharge_volume}
 use Rattle.entries.specs.Entries.{entry_profiles}
-use Rattle.entries.specs.Laws.{entry_discharge, entry_runs}
+use Rattle.entries.proofs.Laws.{entry_discharge, entry_runs}
 use Rattle.discharge.specs.declared.Discharged.{Discharged}
 use Rattle.discharge.specs.declared.Discharged.TheVariants.{Refused, Volumes}
 use Rattle.discharge.specs.Discharge.{accept_of, answer_of, profile_after, EntriesDischarge, Calls}

@@ -1,0 +1,3 @@
+pub mod Alone
+pub mod Holds
+pub mod Near

@@ -1,0 +1,2 @@
+pub mod FromEmpty
+pub mod Laws

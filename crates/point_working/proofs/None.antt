@@ -1,0 +1,77 @@
+-- Laws of specs/None.antt: With no points the call is the call without: its answer, its three profiles, and the point profile as it was.
+use Rattle.std.specs.Prelude.{ℕ, ◌*◌, Bool, true, false, ◌&&◌, ◌≡◌, List, [], ◌∷◌, leb, length}
+use Rattle.std.proofs.Common.{arith, ap, ◌∙◌, le-leb}
+use Rattle.std.proofs.Math.Path.{refl}
+use Rattle.refusal.specs.Refusal.{Or, refused, ok, need, and_then, test, first_failing}
+use Rattle.segment.specs.declared.Segment.{Segment}
+use Rattle.validation.specs.Validation.{check_of}
+use Rattle.validation.specs.Accepting.{accept_with}
+use Rattle.balance_decision.specs.declared.Outcome.{Outcome}
+use Rattle.balance_decision.specs.declared.Outcome.TheVariants.{Worked, Refused, Unsettled}
+use Rattle.propagation.specs.Propagation.{Profiles}
+use Rattle.working.specs.Working as working
+use Rattle.points.specs.declared.Points.{Points}
+use Rattle.points.specs.Points.{all_fit}
+use Rattle.points.proofs.Laws.{none_given}
+use Rattle.point_flows.proofs.Laws.{no_runs, no_counts}
+use Rattle.point_working.specs.declared.PointWorking.{PointWorking}
+use Rattle.point_working.specs.PointWorking.{point_tests, accept_of, none_blocked, PointCalled}
+use Rattle.point_working.specs.PointWorking.{passing_after, counts_after, with_points, by_record, point_call_of, PointWorks}
+use Rattle.point_working.specs.None.{without}
+
+and_true : (a : Bool) → (a && true) ≡ a
+and_true true = refl
+and_true false = refl
+
+module _ (ps : Points) (none : ps.count ≡ 0) where
+  -- no profile is too short for no runs
+  room : (c n : ℕ) → leb (c * ps.count) n ≡ true
+  room c n = let e : c * ps.count ≡ c * 0 = ap (λ (m : ℕ). c * m) none in le-leb (c * ps.count) n (omega arith)
+
+  -- 19 and 20 hold, and 16 is that of the other three profiles
+  tests_none : (o q f g : ℕ) (s : Segment) → first_failing (point_tests ps o q f g s) s ≡ first_failing (test 16 (working.fits o f g s) ∷ []) s
+  unfolding need all_fit
+  tests_none o q f g s = rw (none_given ps none, room s.cycle q, and_true, none)
+
+  accepts_none : (l : List ℕ) (o q f g : ℕ) → accept_of l ps o q f g ≡ working.accept_of l o f g
+  unfolding accept_with
+  accepts_none l o q f g = go (check_of l)
+    where
+      go : (x : Or Segment) → and_then x (λ s. first_failing (point_tests ps o q f g s) s)
+          ≡ and_then x (λ s. first_failing (test 16 (working.fits o f g s) ∷ []) s)
+      go (refused n) = refl
+      go (ok s) = tests_none o q f g s
+
+  -- no run is written, and none is counted: so the call is the call without, whatever the outcome
+  passing_none : (s : Segment) (o : Outcome) (q : List ℕ) → passing_after o s ps q ≡ q
+  passing_none s (Worked sum) q = rw (none_given ps none) (no_runs s q)
+  passing_none s (Refused number) q = cc
+  passing_none s (Unsettled sum) q = cc
+
+  counts_none : (s : Segment) (o : Outcome) → counts_after o s ps ≡ none_blocked
+  counts_none s (Worked sum) = rw (none_given ps none) (no_counts s)
+  counts_none s (Refused number) = cc
+  counts_none s (Unsettled sum) = cc
+
+  with_none : (s : Segment) (c : working.Called) (q : List ℕ) → with_points s ps c q ≡ without c q
+  with_none s c q = rw (passing_none s c.answer.outcome q, counts_none s c.answer.outcome)
+
+  record_none : (x : Or Segment) (p : Profiles) (q : List ℕ) → by_record x ps p q ≡ without (working.by_record x p) q
+  record_none (refused n) p q = refl
+  record_none (ok s) p q = with_none s (working.by_decision s (working.decision_for s) p) q
+
+  pub none_is : (l : List ℕ) (p : Profiles) (q : List ℕ) → point_call_of l ps p q ≡ without (working.call_of l p) q
+  unfolding point_call_of working.call_of
+  none_is l p q =
+      rw (accepts_none l (length p.output) (length q) (length p.first) (length p.second))
+      (record_none (working.accept_of l (length p.output) (length p.first) (length p.second)) p q)
+
+  -- of the calls: what a call with none leaves is what the call without leaves
+  pub none_works : {l : List ℕ} {p : Profiles} {q : List ℕ} {r : PointWorking} {p' : Profiles} {q' : List ℕ} → PointWorks l ps p q r p' q' →
+      working.Works l p r.working p' × (q' ≡ q) × (r.blocked ≡ none_blocked)
+  none_works {l} {p} {q} h =
+      let e = h.is ∙ none_is l p q in (
+        record { is = ap (λ (c : PointCalled). working.called c.answer.working c.after) e; accurate = h.accurate },
+        ap (λ (c : PointCalled). c.passing) e,
+        ap (λ (c : PointCalled). c.answer.blocked) e,
+      )
