@@ -1,11 +1,11 @@
 -- One entry: what its dispersion and its arrivals ask, and what they leave, over plain variables.
-use Prim.Native.Nat.{ℕ, ◌+◌, ◌-◌, ◌≤◌}
+use Prim.Native.Nat.{ℕ, ◌-◌}
 use native.Mathlib.Omega.{arith}
 use native.Mathlib.Nat.{sub-zero}
 use mathlib.Core.Bool.{false}
 use mathlib.Core.Path.{◌≡◌, ap, ◌∙◌}
 use mathlib.Core.List.{List, ◌++◌}
-use lib.ListN.{length, take, drop, length-append}
+use lib.ListN.{length, take, drop}
 use lib.Seq.{take_at}
 use Rattle.segment.specs.declared.Entry.{Entry}
 use Rattle.metering.specs.Metering.{discharge_units}
@@ -50,9 +50,6 @@ module _ (running : ℕ) (q f g : List ℕ) {st : PlatoonState} {f' g' : List �
 module _ (c : ℕ) (e : Entry) (ys : List ℕ) (made : ys ≡ entry_profile c e) where
   pub front : (rest : List ℕ) → take (c - 0) (ys ++ rest) ≡ entry_profile c e
   front rest = rw (sub-zero, made) (take_at (entry_profile c e) rest c (entry_length c e))
-
-  pub front_long : (rest : List ℕ) → c ≤ length (ys ++ rest)
-  front_long rest = rw made (simp length-append (omega (arith, entry_length c e)))
 
 -- what the spreading asks of an entry of the record
 pub entry_asks : {running c o : ℕ} {e : Entry} {row : List ℕ} {p : Profiles} → FillEntryFits running c e o row p →

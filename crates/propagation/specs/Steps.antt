@@ -1,5 +1,5 @@
 -- The filling entry by entry, and what each step asks of the numbers that it is lent.
-use Rattle.std.specs.Prelude.{ℕ, ◌+◌, ◌*◌, ◌≤◌, ◌<◌, ◌≡◌, List, [], ◌++◌, length, drop, get_or}
+use Rattle.std.specs.Prelude.{ℕ, ◌*◌, ◌≤◌, ◌<◌, ◌≡◌, List, [], ◌++◌, length, drop, get_or}
 use Rattle.std.proofs.Common.{arith}
 use Rattle.limits.specs.Limits.{least_cycle, most_cycle, most_running}
 use Rattle.movements.specs.declared.Counts.{Counts}

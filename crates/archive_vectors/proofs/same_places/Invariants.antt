@@ -2,8 +2,8 @@
 use Rattle.std.proofs.Common.{◌-◌, ◌≤◌}
 use Rattle.archive_vectors.proofs.same_places.Given as goal
 
-abbrev pub invariant-loop-same : goal.invariant-loop-same
-invariant-loop-same l = l.i ≤ l.count
+abbrev pub invariant-loop-i : goal.invariant-loop-i
+invariant-loop-i l = l.i ≤ l.count
 
-abbrev pub decreases-loop-same : goal.decreases-loop-same
-decreases-loop-same l = l.count - l.i
+abbrev pub decreases-loop-i : goal.decreases-loop-i
+decreases-loop-i l = l.count - l.i

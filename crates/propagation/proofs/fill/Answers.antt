@@ -1,0 +1,51 @@
+-- After access, and after each entry in turn, the profiles hold what was added so far (`Filling`); after the right entry, the whole.
+use Rattle.std.proofs.Common.{ap, arith}
+use Rattle.movements.specs.declared.Counts.{Counts}
+use Rattle.metering.specs.Metering.{discharge_volumes}
+use Rattle.propagation.proofs.Filling.{fill_begin, fill_asks, then_entry, then_last}
+use Rattle.propagation.proofs.fill.Goals as goal
+
+pub fill_entry-requires : goal.fill_entry-requires
+unfolding discharge_volumes
+fill_entry-requires c =
+    let h = c.requires in
+    let begun = fill_begin h c.begin.ensures c.begin.auto.out in
+    fill_asks begun h.ranges (omega arith) _ h.ranges.left (ap (λ (v : Counts). v.left) h.volumes) h.shares.left
+
+pub fill_entry-requires-2 : goal.fill_entry-requires-2
+unfolding discharge_volumes
+fill_entry-requires-2 c =
+    let h = c.requires in
+    let begun = fill_begin h c.begin.ensures c.begin.auto.out in
+    let k = c.fill_entry.auto in
+    let left =
+    then_entry h.ranges begun _ h.ranges.left (h.shares.four 0 (omega arith)) h.shares.left c.fill_entry.ensures k.output k.first k.second in
+    fill_asks left h.ranges (omega arith) _ h.ranges.through (ap (λ (v : Counts). v.through) h.volumes) h.shares.through
+
+pub fill_entry-requires-3 : goal.fill_entry-requires-3
+unfolding discharge_volumes
+fill_entry-requires-3 c =
+    let h = c.requires in
+    let begun = fill_begin h c.begin.ensures c.begin.auto.out in
+    let k = c.fill_entry.auto in
+    let left =
+    then_entry h.ranges begun _ h.ranges.left (h.shares.four 0 (omega arith)) h.shares.left c.fill_entry.ensures k.output k.first k.second in
+    let m = c.fill_entry-2.auto in
+    let through =
+    then_entry h.ranges left _ h.ranges.through (h.shares.four 1 (omega arith)) h.shares.through c.fill_entry-2.ensures
+    m.output m.first m.second in
+    fill_asks through h.ranges (omega arith) _ h.ranges.right (ap (λ (v : Counts). v.right) h.volumes) h.shares.right
+
+pub returns : goal.returns
+returns c =
+    let h = c.requires in
+    let begun = fill_begin h c.begin.ensures c.begin.auto.out in
+    let k = c.fill_entry.auto in
+    let left =
+    then_entry h.ranges begun _ h.ranges.left (h.shares.four 0 (omega arith)) h.shares.left c.fill_entry.ensures k.output k.first k.second in
+    let m = c.fill_entry-2.auto in
+    let through =
+    then_entry h.ranges left _ h.ranges.through (h.shares.four 1 (omega arith)) h.shares.through c.fill_entry-2.ensures
+    m.output m.first m.second in
+    let n = c.fill_entry-3.auto in
+    then_last h.ranges h.shares through c.fill_entry-3.ensures n.output n.first n.second
