@@ -1,10 +1,6 @@
 -- The figures of a filled output, run by run.
-use Prim.Native.Nat.{ℕ, ◌+◌, ◌-◌, ◌*◌, ◌≤◌, ◌<◌}
-use native.Mathlib.Omega.{arith}
-use mathlib.Core.Path.{◌≡◌}
-use mathlib.Core.List.{List}
-use lib.Ieee.{Float}
-use lib.ListN.{length, take, drop}
+use Rattle.std.proofs.Common.{ℕ, ◌+◌, ◌-◌, ◌*◌, ◌≤◌, ◌<◌, ◌≡◌, List, length, take, drop, arith}
+use Rattle.std.specs.Float.{Float}
 use Rattle.lists.specs.Lists.{sum}
 use Rattle.segment.specs.declared.Segment.{Segment}
 use Rattle.dispersion.specs.Dispersion.{arrival_time_of}

@@ -1,0 +1,20 @@
+-- Each exit's run is lent from the filled output; its figures are those of the definition.
+use Rattle.std.proofs.Common.{arith}
+use Rattle.working_outcome.proofs.Figures.{output_long, worked_is}
+use Rattle.working_outcome.proofs.worked.Goals as goal
+
+pub slice_bounds-figures-end : goal.slice_bounds-figures-end
+slice_bounds-figures-end c = omega (arith, output_long c.requires)
+
+pub slice_bounds-figures-end-2 : goal.slice_bounds-figures-end-2
+slice_bounds-figures-end-2 c = omega (arith, output_long c.requires)
+
+pub slice_bounds-figures-end-3 : goal.slice_bounds-figures-end-3
+slice_bounds-figures-end-3 c = omega (arith, output_long c.requires)
+
+pub slice_bounds-total-end : goal.slice_bounds-total-end
+slice_bounds-total-end c = omega (arith, output_long c.requires)
+
+pub returns : goal.returns
+returns c =
+    worked_is c.requires _ _ c.arrival_time.ensures c.figures.ensures c.figures-2.ensures c.figures-3.ensures c.total.ensures c.blocked_steps.ensures
