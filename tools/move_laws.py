@@ -193,7 +193,7 @@ def move(crate):
         along |= {n for n in every if law(n) and n not in gone and all("pub" not in d.word for m, d in every[n]) and used_by[n] and used_by[n] <= gone | along}
         for d in modules:
             inside = {x.name for x in inner_all(d)}
-            if inside & gone:
+            if inside & (gone | along):
                 along |= {n for n in inside if law(n)}
         if len(rests) + len(along) == before:
             break

@@ -22,7 +22,7 @@ use Rattle.exact.specs.Exit.{pair_within}
 use Rattle.exact.proofs.Exit.{exit_within}
 use Rattle.exact_dispersion.specs.ExactDispersion.{ExactFlow, Near, arrived, last_arrival}
 use Rattle.exact_dispersion.proofs.Laws.{entry_balanced, arrived_last}
-use Rattle.arrivals.specs.Laws.{number_of}
+use Rattle.arrivals.proofs.Laws.{number_of}
 use Rattle.propagation.specs.Propagation.{Profiles, cycles_before, cycles, pair_flow, entry_arrivals, pair_of, lands_in, flow_at, filled_of}
 use Rattle.propagation.specs.Steps.{RowsFit}
 use Rattle.accuracy.specs.Accuracy.{exact_of, exact_at, output_at, last_cycle_in, arrived_in, EntryMeets, FlowsWithin, Accurate}

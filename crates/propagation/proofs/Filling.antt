@@ -17,7 +17,7 @@ use Rattle.entries.proofs.Laws.{entry_length}
 use Rattle.dispersion.specs.Dispersion.{arrival_time_of, reported}
 use Rattle.dispersion.specs.Cycles.{reported_length}
 use Rattle.arrivals.specs.Arrivals.{arrival_limit, run_limit, begun, four_runs}
-use Rattle.arrivals.specs.Laws.{runs_le}
+use Rattle.arrivals.proofs.Laws.{runs_le}
 use Rattle.arrivals.proofs.Laws.{begun_runs, added_runs}
 use Rattle.propagation.specs.Propagation.{Profiles, profiles, cycles_before, cycles, pair_flow, entry_arrivals, pair_of, lands_in, flow_at, filled_of}
 use Rattle.propagation.specs.Steps.{spread_step, FillEntryFits, entry_step, Room, RowsFit, FillFits, room_kept}

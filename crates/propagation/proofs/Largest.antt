@@ -12,7 +12,7 @@ use Rattle.entries.specs.Entries.{entry_profile}
 use Rattle.entries.proofs.Laws.{entry_length, entry_le}
 use Rattle.dispersion.specs.Dispersion.{arrival_time_of}
 use Rattle.dispersion.specs.Cycles.{reported_length, reported_le}
-use Rattle.arrivals.specs.Laws.{lands_le}
+use Rattle.arrivals.proofs.Laws.{lands_le}
 use Rattle.propagation.specs.Propagation.{cycles_before, cycles, pair_flow, entry_arrivals, pair_of, lands_in, flow_at}
 use Rattle.propagation.specs.Steps.{RowsFit}
 use Rattle.propagation.specs.Largest.{largest_flow}

@@ -4,7 +4,7 @@ use Rattle.std.specs.Float.{Float}
 use Rattle.lists.specs.Lists.{sum}
 use Rattle.segment.specs.declared.Segment.{Segment}
 use Rattle.dispersion.specs.Dispersion.{arrival_time_of}
-use Rattle.arrivals.specs.Laws.{run_of_lem, runs_length}
+use Rattle.arrivals.proofs.Laws.{run_of_lem, runs_length}
 use Rattle.exit_figures.specs.declared.ExitFigures.{ExitFigures}
 use Rattle.exit_figures.specs.ExitFigures.{figures_of, blocked_steps}
 use Rattle.balance_decision.specs.declared.Outcome.TheVariants.{Worked}

@@ -4,7 +4,7 @@ use Rattle.runs.specs.Runs.{run_at}
 use Rattle.segment.specs.declared.Segment.{Segment}
 use Rattle.ranges.specs.Ranges.{Ranges}
 use Rattle.arrivals.specs.Arrivals.{four_runs}
-use Rattle.arrivals.specs.Laws.{run_of_lem}
+use Rattle.arrivals.proofs.Laws.{run_of_lem}
 use Rattle.propagation.specs.Propagation.{Profiles, flow_at, filled_of}
 use Rattle.working_outcome.specs.Answer.{run_of}
 
