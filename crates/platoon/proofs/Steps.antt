@@ -1,5 +1,5 @@
 -- Laws of specs/Steps.antt: What an entry discharges in each step of the cycle.
-use Rattle.std.specs.Prelude.{ℕ, ◌+◌, ◌-◌, ◌*◌, ◌/◌, min, ◌≤◌, ◌<◌, false, ◌≡◌, List, length, take}
+use Rattle.std.specs.Prelude.{ℕ, ◌+◌, ◌-◌, min, ◌≤◌, ◌<◌, false, ◌≡◌, List, length, take}
 use native.Mathlib.Omega.{arith}
 use Rattle.std.proofs.Common.{ap, sym, ◌∙◌, length-take-le, get_or-take, ltb-false}
 use Rattle.std.proofs.Math.ListN.{get_or-eq_default}

@@ -1,6 +1,6 @@
 -- The discharge in green order: each green step discharges the smaller of the rate and what waits.
-use Rattle.std.specs.Prelude.{ℕ, ◌+◌, ◌-◌, ◌*◌, ◌/◌, ◌≤◌, ◌<◌, ◌≡◌}
-use Rattle.std.proofs.Common.{arith, mul-le-mul_right, div-mul-le_self, le-div_iff_mul-le, ◌∙◌}
+use Rattle.std.specs.Prelude.{ℕ, ◌*◌, ◌/◌, ◌≤◌, ◌<◌}
+use Rattle.std.proofs.Common.{arith, mul-le-mul_right, div-mul-le_self, le-div_iff_mul-le}
 
 -- what has arrived grows
 pub more_arrived : (all g j k : ℕ) → 0 < g → j ≤ k → j * all / g ≤ k * all / g
