@@ -1,5 +1,5 @@
 -- Laws of specs/Alone.antt: What a part shuts out by itself. Part 2: a working that hands on an entry's discharge undispersed, wherever the entry's last step
-use Rattle.std.specs.Prelude.{ℕ, suc, ◌+◌, ◌-◌, ◌*◌, ◌≤◌, ◌<◌, ◌≡◌, List, take, get_or}
+use Rattle.std.specs.Prelude.{ℕ, suc, ◌+◌, ◌-◌, ◌*◌, ◌<◌, ◌≡◌, List, take, get_or}
 use Rattle.std.proofs.Common.{arith}
 use Rattle.lists.specs.Lists.{sum}
 use Rattle.segment.specs.declared.Segment.{Segment}

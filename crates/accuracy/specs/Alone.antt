@@ -1,7 +1,7 @@
 -- What a part shuts out by itself. Part 2: a working that hands on an entry's discharge undispersed, wherever the entry's last step
 -- discharges; and work profiles that hold the right entry's so, wherever its last step is D / (D - N) or more from the level that the cycles
 -- before left. Part 3: an exit that gets all of an entry's arrivals, where its share is less.
-use Rattle.std.specs.Prelude.{ℕ, ◌+◌, ◌-◌, ◌*◌, ◌≤◌, ◌<◌, ◌≡◌, List, get_or}
+use Rattle.std.specs.Prelude.{ℕ, ◌-◌, ◌≤◌, ◌<◌, ◌≡◌, List, get_or}
 use Rattle.std.proofs.Common.{arith, mul-le-mul_right, mul-lt-mul_of_pos_right}
 use Rattle.lists.specs.Lists.{sum}
 use Rattle.segment.specs.declared.Entry.{Entry}

@@ -1,5 +1,5 @@
 -- Each signalised entry's arrivals are near an exact flow: what the distances of exits and of points follow from.
-use Rattle.std.specs.Prelude.{ℕ, ◌+◌, ◌*◌, ◌^◌, ◌≤◌, ◌<◌}
+use Rattle.std.specs.Prelude.{ℕ, ◌<◌}
 use Rattle.segment.specs.declared.Segment.{Segment}
 use Rattle.entries.specs.Entries.{entry_profile}
 use Rattle.exact_dispersion.specs.ExactDispersion.{ExactFlow, Near}
