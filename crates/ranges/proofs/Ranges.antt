@@ -1,5 +1,5 @@
 -- Laws of specs/Ranges.antt: What the tests of a record say of its fields, as facts.
-use Rattle.std.specs.Prelude.{ℕ, ◌≤◌, Bool, true, ◌&&◌, ◌≡◌}
+use Rattle.std.specs.Prelude.{ℕ, Bool, true, ◌&&◌, ◌≡◌}
 use Rattle.std.proofs.Common.{leb-true, ltb-true}
 use Rattle.refusal.specs.Refusal.{both}
 use Rattle.signal.specs.declared.Green.{Green}
