@@ -1,5 +1,5 @@
 -- Laws of specs/Decided.antt.
-use Rattle.std.specs.Prelude.{◌*◌, ◌≤◌, ◌<◌, ◌&&◌, ◌≡◌, [], ◌∷◌, Float}
+use Rattle.std.specs.Prelude.{◌≡◌, Float}
 use Rattle.std.proofs.Common.{ap, sym, ◌∙◌}
 use Rattle.segment.specs.declared.Segment.{Segment}
 use Rattle.ranges.specs.Ranges.{Ranges}

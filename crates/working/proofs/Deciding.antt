@@ -1,10 +1,6 @@
 -- The ways of the call, over plain variables.
-use Prim.Native.Nat.{ℕ, ◌*◌}
-use native.Mathlib.Omega.{arith}
-use mathlib.Core.Path.{◌≡◌, ap, sym, subst, ◌∙◌}
-use mathlib.Core.List.{List}
-use lib.Ieee.{Float}
-use lib.ListN.{drop}
+use Rattle.std.proofs.Common.{ℕ, ◌*◌, ◌≡◌, ap, sym, subst, ◌∙◌, List, drop, arith}
+use Rattle.std.specs.Float.{Float}
 use Rattle.refusal.specs.Refusal.{false_true}
 use Rattle.movements.specs.declared.Counts.{Counts}
 use Rattle.segment.specs.declared.Segment.{Segment}
@@ -14,7 +10,7 @@ use Rattle.validation.specs.Validation.{checked_of}
 use Rattle.metering.specs.Metering.{discharge_volumes}
 use Rattle.metering.proofs.Metering.{discharge_volume_entry}
 use Rattle.balance_pairs.specs.Pairs.{WithinLimit}
-use Rattle.balance_decision.specs.declared.Outcome.TheVariants.{Worked, Refused, Unsettled}
+use Rattle.balance_decision.specs.declared.Outcome.TheVariants.{Refused}
 use Rattle.balance_decision.specs.declared.Decision.{Decision}
 use Rattle.balance_decision.specs.Outcome.{refusal_of}
 use Rattle.balance_decision.specs.Decision.{decision_of}
@@ -22,9 +18,9 @@ use Rattle.propagation.specs.Propagation.{Profiles, filled_of}
 use Rattle.propagation.specs.Steps.{Room, FillFits}
 use Rattle.accuracy.specs.Accuracy.{Accurate}
 use Rattle.working_outcome.specs.declared.Working.{Working}
-use Rattle.working_outcome.specs.Answer.{refused_with, worked_of}
+use Rattle.working_outcome.specs.Answer.{refused_with}
 use Rattle.working_outcome.specs.Filled.{Filled}
-use Rattle.working.specs.Working.{decision_for, called, by_outcome, by_decision, Works}
+use Rattle.working.specs.Working.{decision_for, called, by_decision, Works}
 use Rattle.working.specs.Decided.{Decided, rows_fit}
 use Rattle.working.proofs.Decided.{decided_accurate}
 use Rattle.working.proofs.Ways.{accept_for, call_passed, call_accepted, call_refused}
@@ -46,17 +42,6 @@ pub decided_is : (s : Segment) {o : Counts} {d : Decision} → o ≡ discharge_v
 unfolding decision_for
 decided_is s eo ed = ed ∙ rw eo
 
-module _ (s : Segment) (p : Profiles) {d : Decision} (e : d ≡ decision_for s) where
-  pub refused_is : (n : ℕ) → d.outcome ≡ Refused n → {w : Working} → w ≡ refused_with d.outcome → called w p ≡ by_decision s (decision_for s) p
-  refused_is n eo ew = rw (← e, ew, eo)
-
-  pub unsettled_is : (x : Float) → d.outcome ≡ Unsettled x → {w : Working} → w ≡ refused_with d.outcome → called w p ≡ by_decision s (decision_for s) p
-  unsettled_is x eo ew = rw (← e, ew, eo)
-
-  pub worked_is : (x : Float) → d.outcome ≡ Worked x → {w : Working} (p' : Profiles) → called w p' ≡ by_outcome (Worked x) s (decision_for s) p →
-      called w p' ≡ by_decision s (decision_for s) p
-  worked_is x eo p' q = q ∙ rw (← e, eo)
-
 -- ---- filling what is decided to work
 
 module _ {s : Segment} {x : Float} {d : Decision} {p : Profiles} (h : Decided s x d p) {rows : List (List ℕ)} (er : rows ≡ d.pairs.rows) where
@@ -67,10 +52,6 @@ module _ {s : Segment} {x : Float} {d : Decision} {p : Profiles} (h : Decided s 
   pub filled : (p' : Profiles) → p' ≡ filled_of s rows p → Filled s d.pairs.rows p'.output
   unfolding filled_of
   filled p' ef = record { ranges = h.ranges; rest = drop (4 * s.cycle) p.output; is = ap (λ (q : Profiles). q.output) (rw er at ef) }
-
-  pub fill_is : (p' : Profiles) → p' ≡ filled_of s rows p → {w : Working} → w ≡ worked_of s x d.rounds d.pairs →
-      called w p' ≡ by_outcome (Worked x) s (decision_for s) p
-  fill_is p' ef ew = rw (ef, ew, er, ← h.is)
 
 -- ---- what the record decides
 

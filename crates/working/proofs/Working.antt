@@ -1,5 +1,5 @@
 -- Laws of specs/Working.antt: The working of a segment record over three lent profiles: what it answers and leaves in them, on every way.
-use Rattle.std.specs.Prelude.{◌*◌, ◌&&◌, ◌≡◌, refl, [], ◌∷◌}
+use Rattle.std.specs.Prelude.{◌≡◌, refl}
 use Rattle.segment.specs.declared.Segment.{Segment}
 use Rattle.balance_decision.specs.declared.Outcome.{Outcome}
 use Rattle.balance_decision.specs.declared.Outcome.TheVariants.{Worked, Refused, Unsettled}

@@ -1,7 +1,7 @@
 -- What stands on the working of an accepted record: the room that its test leaves, what its filling asks, pair flows that fit their entries,
 -- demand 3 of what was worked, and that a refusal of a record or a call is told by its number.
 use Rattle.std.specs.Prelude.{ℕ, zero, suc, ◌*◌, ◌≤◌, ◌<◌, Bool, true, not, ◌&&◌, ◌≡◌, refl, List, [], ◌∷◌, leb, eqb, Float, length, get_or}
-use Rattle.std.proofs.Common.{arith, ◌∙◌, leb-true}
+use Rattle.std.proofs.Common.{arith, leb-true}
 use Rattle.std.proofs.lemmas.Bool.{not-true}
 use Rattle.refusal.specs.Refusal.{refused, both, Test, each}
 use Rattle.lists.specs.Lists.{sum}

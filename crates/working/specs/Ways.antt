@@ -1,8 +1,6 @@
 -- The ways of a call by what is decided of its record and of the lent profiles' lengths: refused, or accepted and decided by its volumes.
-use Rattle.std.specs.Prelude.{ℕ, ◌≤◌, ◌≡◌, List, Float}
-use Rattle.std.proofs.Common.{◌∙◌}
+use Rattle.std.specs.Prelude.{ℕ, ◌≡◌, List, Float}
 use Rattle.segment.specs.declared.Segment.{Segment}
-use Rattle.validation.specs.declared.Checked.TheVariants as checked
 use Rattle.validation.specs.Accepted.{Accepted}
 use Rattle.balance_decision.specs.declared.Outcome.TheVariants.{Worked}
 use Rattle.propagation.specs.Propagation.{Profiles}
