@@ -1,6 +1,5 @@
 -- A call on a record: the refusals of the record, then those of the call's own tests.
-use Rattle.std.specs.Prelude.{ℕ, ◌≤◌, ◌&&◌, ◌≡◌, List}
-use Rattle.std.proofs.Common.{◌∙◌}
+use Rattle.std.specs.Prelude.{ℕ, ◌≡◌, List}
 use Rattle.refusal.specs.Refusal.{Or, refused, ok, and_then, Test, first_failing}
 use Rattle.segment.specs.declared.Segment.{Segment}
 use Rattle.validation.specs.declared.Checked.TheVariants.{Refused, Valid}
