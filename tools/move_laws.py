@@ -371,7 +371,7 @@ def narrow(text):
                 x = x.strip()
                 n = x.split(" as ")[-1]
                 parts = [q for q in n.split("◌") if q]
-                if n in w or "◌" in n and all(q in w or q in body for q in parts) or not re.fullmatch(r"[\w'◌₀-₉-]+", n):
+                if n in w or all(q in w for q in parts) if "◌" in n else n in w or not re.fullmatch(r"[\w'₀-₉-]+", n):
                     keep.append(x)
             if keep:
                 out.append(f"use {m[2]}.{{{', '.join(keep)}}}")

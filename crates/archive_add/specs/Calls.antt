@@ -1,8 +1,7 @@
 -- Adding called again and again, from the six bytes of the empty archive: what was added without a refusal reads back as that list,
 -- and an archive's records, added in order, are never refused and give its bytes again.
 -- With e = segments: `encode e []` is what `archive_format::empty` answers, `Adds` the contract of `add`, the rest those of the reading calls.
-use Rattle.std.specs.Prelude.{ℕ, suc, ◌≤◌, ◌≡◌, List, [], ◌∷◌, ◌++◌, take}
-use Rattle.std.proofs.Common.{◌∙◌}
+use Rattle.std.specs.Prelude.{ℕ, suc, List, [], ◌∷◌, take}
 use Rattle.refusal.specs.Refusal.{Or, refused, ok}
 use Rattle.archive_format.specs.declared.Edition.{Edition}
 use Rattle.archive_format.specs.declared.Answer.TheVariants.{Value, Refused}

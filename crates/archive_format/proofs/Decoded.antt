@@ -1,5 +1,5 @@
 -- Laws of specs/Decoded.antt: An archive that reads is the encoding of its records, and they are fit to be encoded.
-use Rattle.std.specs.Prelude.{ℕ, suc, ◌+◌, ◌*◌, ◌-◌, ◌≤◌, ◌≡◌, List, [], ◌∷◌, ◌++◌, length, drop}
+use Rattle.std.specs.Prelude.{ℕ, suc, ◌+◌, ◌*◌, ◌-◌, ◌≤◌, ◌≡◌, List, [], ◌∷◌, length, drop}
 use Rattle.std.proofs.Common.{arith, ◌∙◌, drop-cons}
 use Rattle.std.proofs.Math.Seq.{drop-length}
 use Rattle.refusal.specs.Refusal.{ok}

@@ -1,5 +1,5 @@
 -- Laws of specs/Finding.antt: What finding means: the place found holds the record with the number, and its title is that record's.
-use Rattle.std.specs.Prelude.{ℕ, zero, suc, ◌+◌, ◌*◌, ◌≤◌, ◌<◌, ◌≡◌, refl, Bool, true, false, cond, List, [], ◌∷◌, ◌++◌, eqb, ltb, length, get_or}
+use Rattle.std.specs.Prelude.{ℕ, zero, suc, ◌+◌, ◌≤◌, ◌<◌, ◌≡◌, refl, Bool, true, false, cond, List, [], ◌∷◌, ◌++◌, eqb, ltb, length, get_or}
 use Rattle.std.proofs.Common.{arith, ap, ◌∙◌, eqb-true, ne_eqb}
 use Rattle.refusal.specs.Refusal.{Or, refused, ok, and_then, both, false_true}
 use Rattle.archive_format.specs.declared.Edition.{Edition}

@@ -1,8 +1,7 @@
 -- Written reads back: where adding accepts, the new archive reads as the old records, in order, and the new one;
 -- finding and titles give back the new record, and every record found before at its place, with its bytes and title.
 -- And the records of a fit list are accepted one after another.
-use Rattle.std.specs.Prelude.{ℕ, ◌+◌, ◌≤◌, ◌<◌, ◌≡◌, true, List, [], ◌∷◌, ◌++◌, length, take, drop}
-use Rattle.std.proofs.Common.{◌∙◌}
+use Rattle.std.specs.Prelude.{ℕ, ◌+◌, ◌≤◌, ◌<◌, ◌≡◌, true, List, [], ◌++◌, length, take, drop}
 use Rattle.refusal.specs.Refusal.{refused, ok}
 use Rattle.octets.specs.Octets.{word4}
 use Rattle.archive_format.specs.declared.Edition.{Edition}

@@ -1,5 +1,5 @@
 -- The encoding of a fit list reads as that list.
-use Rattle.std.specs.Prelude.{ℕ, suc, ◌+◌, ◌*◌, ◌-◌, ◌≤◌, ◌≡◌, refl, true, List, [], ◌∷◌, ◌++◌, length, take, drop, get_or}
+use Rattle.std.specs.Prelude.{ℕ, suc, ◌+◌, ◌*◌, ◌≤◌, ◌≡◌, refl, true, List, [], ◌∷◌, ◌++◌, length, take, drop, get_or}
 use Rattle.std.proofs.Common.{arith, sym, ap, ◌∙◌, append_assoc, length-append, drop-drop, get_or-drop, take_at, drop_at, le-leb, eq-eqb}
 use Rattle.std.proofs.lemmas.List.{get_or_at}
 use Rattle.octets.specs.Octets.{word2, bytes2}

@@ -1,6 +1,6 @@
 -- Two lists of records, one after the other: their titles, numbers, shapes and bytes; the first of a fit list is fit.
-use Rattle.std.specs.Prelude.{ℕ, ◌+◌, ◌≤◌, ◌≡◌, refl, ◌&&◌, List, [], ◌∷◌, ◌++◌, ltb, length}
-use Rattle.std.proofs.Common.{arith, sym, ◌∙◌, append_assoc, length-append}
+use Rattle.std.specs.Prelude.{ℕ, ◌+◌, ◌≡◌, refl, ◌&&◌, List, [], ◌∷◌, ◌++◌, ltb, length}
+use Rattle.std.proofs.Common.{arith, sym, append_assoc, length-append}
 use Rattle.std.proofs.Math.Bool.{and_assoc}
 use Rattle.archive_format.specs.Archive.{Filed, record_number, body, printables, titled, rising, last_number, place_after}
 use Rattle.archive_format.specs.Decoded.{Shaped}

@@ -1,7 +1,6 @@
 -- What the reading calls answer of an archive, record by record: place, finding and title of each, and of no other.
 -- So the records come back by asking for each place, and reading gives the list that the archive holds.
 use Rattle.std.specs.Prelude.{ℕ, zero, suc, ◌+◌, ◌≤◌, ◌≡◌, take}
-use Rattle.std.proofs.Common.{◌∙◌}
 use mathlib.Core.List.{List, [], ◌∷◌, ◌++◌}
 use Rattle.std.proofs.Math.ListN.{length, drop}
 use Rattle.refusal.specs.Refusal.{refused, ok}

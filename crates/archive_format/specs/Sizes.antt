@@ -1,5 +1,5 @@
 -- How long an archive gets, and that two bytes hold its count and its places.
-use Rattle.std.specs.Prelude.{ℕ, zero, suc, ◌+◌, ◌*◌, ◌≤◌, ◌<◌, ◌≡◌, List, [], ◌∷◌, ◌++◌, length, replicate}
+use Rattle.std.specs.Prelude.{ℕ, zero, suc, ◌+◌, ◌*◌, ◌≤◌, ◌≡◌, List, [], ◌∷◌, ◌++◌, length, replicate}
 use Rattle.std.proofs.Common.{arith, length-append}
 use Rattle.refusal.specs.Refusal.{ok}
 use Rattle.octets.specs.Octets.{bytes2}

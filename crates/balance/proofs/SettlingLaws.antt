@@ -1,5 +1,5 @@
 -- Laws of specs/Settling.antt: The settling and its cells: items 4 and 5 of "Metering and shares".
-use Rattle.std.specs.Prelude.{◌+◌, false, ◌≡◌, refl}
+use Rattle.std.specs.Prelude.{false, ◌≡◌, refl}
 use Rattle.std.specs.Float.{binary64}
 use Rattle.std.specs.Float.Ieee.{of_bits, round}
 use Rattle.balance.specs.Settling.{threshold}

@@ -1,5 +1,5 @@
 -- Laws of specs/Pieces.antt: Pieces one after another are one piece; and what a buffer holds where all of it fits.
-use Rattle.std.specs.Prelude.{ℕ, ◌+◌, ◌-◌, ◌≤◌, min, max, Bool, true, false, ◌≡◌, refl, List, [], ◌∷◌, ◌++◌, leb, length, take, drop}
+use Rattle.std.specs.Prelude.{ℕ, ◌+◌, ◌-◌, ◌≤◌, min, max, Bool, true, false, ◌≡◌, refl, List, [], ◌++◌, leb, length, take, drop}
 use Rattle.std.proofs.Common.{arith, ap, sym, ◌∙◌, length-append, leb-true, leb-false}
 use Rattle.std.proofs.lemmas.List.Edits.{sets, sets-eq}
 use Rattle.std.proofs.Math.Seq.{length-sets}

@@ -1,5 +1,5 @@
 -- Laws of specs/Exit.antt.
-use Rattle.std.specs.Prelude.{ℕ, ◌+◌, ◌*◌, ◌≤◌, ◌<◌, ◌≡◌}
+use Rattle.std.specs.Prelude.{ℕ, ◌+◌, ◌*◌, ◌≡◌}
 use Rattle.std.proofs.Common.{arith}
 use Rattle.exact.specs.Fraction.{Fraction, WithinParts, within_plus, within_whole}
 use Rattle.exact.specs.Exact.{exact_exit}

@@ -1,5 +1,5 @@
 -- Laws of specs/Run.antt: Laws of a run of steps that divide by n + m and carry the remainder: what it keeps, and how near it stays to the exact flow.
-use Rattle.std.specs.Prelude.{ℕ, zero, suc, ◌+◌, ◌*◌, ◌^◌, ◌≤◌, ◌<◌, ◌≡◌, List, [], ◌∷◌, length}
+use Rattle.std.specs.Prelude.{ℕ, zero, suc, ◌+◌, ◌*◌, ◌^◌, ◌<◌, ◌≡◌, List, [], length}
 use Rattle.std.proofs.Math.Nat.{pow-zero, pow-succ', one-le-pow, lt_of_mul-lt-mul_left}
 use Rattle.std.proofs.Common.{mul-le-mul_left, arith, ap}
 use Rattle.std.proofs.Math.ListN.{get_or}

@@ -1,5 +1,5 @@
 -- Laws of specs/Laws.antt: The laws of exact at dispersion's own definitions: conservation over all cycles, and the reported arrivals against the exact flow.
-use Rattle.std.specs.Prelude.{ℕ, zero, suc, ◌+◌, ◌-◌, ◌*◌, ◌^◌, ◌<◌, ◌≡◌, refl, List, [], ◌∷◌, ◌++◌, length}
+use Rattle.std.specs.Prelude.{ℕ, zero, suc, ◌+◌, ◌-◌, ◌*◌, ◌<◌, ◌≡◌, refl, List, [], ◌∷◌, ◌++◌, length}
 use Rattle.std.proofs.Common.{arith, ◌∙◌, get_or-drop}
 use Rattle.lists.specs.Lists.{sum, sum_append}
 use Rattle.dispersion.specs.Dispersion.{smoothing, divisor_of, empty_state, arrivals, state_after, repeated, reported}

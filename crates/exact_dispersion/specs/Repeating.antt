@@ -1,6 +1,5 @@
 -- The repeating flow of an entry, in the terms of dispersion, and how near the reported cycle is to it.
-use Prim.Native.Nat.{ℕ, ◌+◌, ◌-◌, ◌*◌, ◌^◌, ◌≤◌, ◌<◌}
-use Rattle.std.specs.Prelude.{◌≡◌}
+use Prim.Native.Nat.{ℕ, ◌-◌, ◌^◌}
 use Rattle.std.proofs.Math.ListN.{length, get_or}
 use Rattle.dispersion.specs.Dispersion.{smoothing, divisor_of}
 use Rattle.exact_repeating.specs.Repeating.{repeating_flow}

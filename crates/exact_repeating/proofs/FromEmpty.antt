@@ -1,7 +1,7 @@
 -- Laws of specs/FromEmpty.antt.
-use Rattle.std.specs.Prelude.{ℕ, zero, suc, ◌+◌, ◌*◌, ◌^◌, ◌≤◌, ◌<◌, ◌≡◌, ◌++◌}
+use Rattle.std.specs.Prelude.{ℕ, zero, suc, ◌+◌, ◌*◌, ◌^◌, ◌≤◌}
 use Rattle.std.proofs.Math.Nat.{pow-zero, pow-succ'}
-use Rattle.std.proofs.Common.{mul-le-mul_left, arith, ap, ◌∙◌}
+use Rattle.std.proofs.Common.{mul-le-mul_left, arith, ap}
 use Rattle.exact.specs.Exact.{exact_numerator}
 use Rattle.exact_repeating.specs.Repeating.{cycle_weight}
 use Rattle.exact_repeating.proofs.Laws.{weight_split}

@@ -1,5 +1,5 @@
 -- Laws of specs/Largest.antt: The largest flow of a pair, and of an exit in a step.
-use Rattle.std.specs.Prelude.{ℕ, zero, suc, ◌+◌, ◌*◌, ◌≤◌, ◌<◌, List}
+use Rattle.std.specs.Prelude.{ℕ, zero, suc, ◌≤◌, ◌<◌, List}
 use native.Mathlib.Omega.{arith}
 use Rattle.limits.specs.Limits.{entry_limit, flow_limit}
 use Rattle.movements.specs.Movements.{flow_units}

@@ -1,5 +1,5 @@
 -- The largest flow of a pair, and of an exit in a step.
-use Rattle.std.specs.Prelude.{ℕ, ◌+◌, ◌*◌, ◌≤◌, ◌<◌}
+use Rattle.std.specs.Prelude.{ℕ, ◌+◌, ◌*◌}
 use Rattle.limits.specs.Limits.{entry_limit, flow_limit}
 use Rattle.movements.specs.Movements.{flow_units}
 

@@ -1,5 +1,5 @@
 -- Laws of specs/Fits.antt.
-use Rattle.std.specs.Prelude.{ℕ, zero, suc, ◌+◌, ◌/◌, ◌^◌, ◌≤◌, ◌<◌, true, ◌≡◌, List, [], ◌∷◌, ◌++◌, length, take, drop, get_or}
+use Rattle.std.specs.Prelude.{ℕ, zero, suc, ◌+◌, ◌^◌, ◌≤◌, ◌<◌, true, ◌≡◌, List, [], ◌++◌, length, take, drop, get_or}
 use Rattle.std.proofs.Common.{arith, ap, length-append, length-take, get_or-drop}
 use Rattle.std.proofs.Math.Path.{refl}
 use Rattle.exit_figures.specs.declared.ExitFigures.{ExitFigures}

@@ -1,5 +1,5 @@
 -- Laws of specs/Told.antt: Where each number of a sheet stands on its page, and that its digits read back as the number.
-use Prim.Native.Nat.{ℕ, zero, suc, ◌+◌, ◌*◌, ◌/◌, ◌%◌, ◌^◌, ◌≤◌, ◌<◌}
+use Prim.Native.Nat.{ℕ, zero, suc, ◌+◌, ◌*◌, ◌/◌, ◌%◌, ◌^◌, ◌<◌}
 use Rattle.std.proofs.Common.{div-le_self, div-one, ap, sym, ◌∙◌, length-take, length-drop, drop-drop, get_or-append-add}
 use native.Mathlib.Omega.{arith}
 use Rattle.std.specs.Prelude.{◌≡◌, take, drop}

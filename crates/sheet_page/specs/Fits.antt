@@ -1,5 +1,5 @@
 -- What keeps a sheet within its page: numbers of so many digits, four pair flows to a row, a run of no more steps than rows are left for.
-use Rattle.std.specs.Prelude.{ℕ, zero, suc, ◌+◌, ◌/◌, ◌^◌, ◌≤◌, ◌<◌, ◌≡◌, List, [], ◌∷◌, ◌++◌, length, take, get_or}
+use Rattle.std.specs.Prelude.{ℕ, zero, suc, ◌/◌, ◌^◌, ◌≤◌, ◌<◌, ◌≡◌, List, [], ◌∷◌, ◌++◌, length, take, get_or}
 use Rattle.std.proofs.Common.{div-le_self, arith, length-append}
 use Rattle.std.proofs.Math.Path.{refl}
 use Rattle.exit_figures.specs.declared.ExitFigures.{ExitFigures}
