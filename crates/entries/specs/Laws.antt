@@ -1,6 +1,6 @@
 -- An entry's profile has a number for each step, discharges as the paper says, and keeps below its saturation; the three are a profile's first runs.
-use Rattle.std.specs.Prelude.{ℕ, ◌≤◌, ◌≡◌, ◌++◌}
-use Rattle.std.proofs.Common.{arith, ◌∙◌}
+use Rattle.std.specs.Prelude.{ℕ, ◌≤◌, ◌≡◌}
+use Rattle.std.proofs.Common.{arith}
 use Rattle.limits.specs.Limits.{entry_limit}
 use Rattle.segment.specs.declared.Entry.{Entry}
 use Rattle.ranges.specs.Ranges.{EntryRanges}
