@@ -1,20 +1,11 @@
--- Arrays that are lent whole; and the record's three discharges, made in one for the longest cycle, as the points take them.
-use Prim.Native.Nat.{ℕ, ◌*◌, ◌≤◌}
-use native.Mathlib.Omega.{arith}
-use mathlib.Core.Path.{◌≡◌}
-use mathlib.Core.List.{List, ◌++◌}
-use lib.ListN.{length, take, length-append}
-use lib.Seq.{take_at}
+-- The record's three discharges, made in one for the longest cycle, as the points take them.
+use Rattle.std.proofs.Common.{ℕ, ◌*◌, arith, ◌≡◌, List, ◌++◌, length, take, take_at}
 use Rattle.limits.specs.Limits.{most_cycle}
 use Rattle.segment.specs.declared.Segment.{Segment}
 use Rattle.entries.specs.Entries.{entry_profiles}
 use Rattle.entries.proofs.Laws.{entry_runs}
 use Rattle.points.specs.declared.Points.{Points}
 use Rattle.point_filling.specs.Steps.{FillFits, EachFits}
-
--- an array after all of it was lent: what was made there, and nothing is cut
-pub array_long : {n : ℕ} (made rest : List ℕ) → length made ≡ n → n ≤ length (made ++ rest)
-array_long made rest whole = simp length-append (omega arith)
 
 -- room for three runs of the longest cycle
 abbrev discharge_room : ℕ

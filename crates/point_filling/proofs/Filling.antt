@@ -1,12 +1,8 @@
 -- The loop over the points: i runs filled and counted, the others to come.
-use Prim.Native.Nat.{ℕ, zero, suc, ◌+◌, ◌-◌, ◌*◌, ◌≤◌, ◌<◌}
-use native.Mathlib.Omega.{arith}
-use native.Mathlib.Numerals.{add-one, unary_clauses}
-use mathlib.Core.Bool.{true}
-use mathlib.Core.Path.{◌≡◌, refl, ap, sym, ◌∙◌}
-use mathlib.Core.List.{List, ◌++◌, map}
-use lib.ListN.{length, take, drop, set, get_or, replicate, length-set, length-map, drop_of_length-le}
-use lib.Seq.{sets, sets-eq}
+use Rattle.std.proofs.Common.{ℕ, zero, suc, ◌+◌, ◌-◌, ◌*◌, ◌≤◌, ◌<◌, arith, add-one, true, ◌≡◌, refl, ap, sym, ◌∙◌, List, ◌++◌, map, length, take, drop, set, get_or, replicate, length-set, drop_of_length-le}
+use Rattle.std.proofs.Math.Numerals.{unary_clauses}
+use Rattle.std.proofs.Math.ListN.{length-map}
+use Rattle.std.proofs.Math.Seq.{sets, sets-eq}
 use Rattle.runs.specs.PerRun.{Worked, worked_start, part, part_length, worked_turn, worked_done}
 use Rattle.segment.specs.declared.Segment.{Segment}
 use Rattle.points.specs.declared.Point.{Point}

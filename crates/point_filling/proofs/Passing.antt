@@ -1,12 +1,7 @@
 -- One entry past a point, over plain variables; and a point's run as a function of its steps while the entries are added.
-use Prim.Native.Nat.{ℕ, ◌+◌, ◌-◌, ◌*◌, ◌≤◌, ◌<◌}
-use native.Mathlib.Omega.{arith}
-use native.Mathlib.Nat.{sub-zero}
-use mathlib.Core.Path.{◌≡◌, sym, ◌∙◌}
-use mathlib.Core.List.{List, ◌++◌, append_assoc}
-use lib.ListN.{length, take, drop, get_or, replicate, length-append}
-use lib.Seq.{take_at}
-use Rattle.limits.specs.Limits.{most_running, step_bound}
+use Rattle.std.proofs.Common.{ℕ, ◌+◌, ◌-◌, ◌*◌, ◌≤◌, ◌<◌, arith, ◌≡◌, sym, ◌∙◌, List, ◌++◌, append_assoc, length, take, drop, get_or, replicate, take_at}
+use Rattle.std.proofs.Math.Nat.{sub-zero}
+use Rattle.limits.specs.Limits.{most_running}
 use Rattle.lists.specs.Lists.{tab, tab_length, tab_each_le, tab_constant}
 use Rattle.movements.specs.Movements.{flow_units}
 use Rattle.signal.specs.Turn.{earlier}
@@ -33,9 +28,6 @@ module _ (running : ℕ) (q x : List ℕ) {ys : List ℕ} (made : ys ≡ held ru
   long : length (reported running q cycles) ≡ length q
   long = reported_length running q cycles_before
 
-  pub front_long : length q ≤ length (ys ++ rest)
-  front_long = rw made (simp length-append (omega (arith, long)))
-
   part_is : take (length q - 0) (ys ++ rest) ≡ reported running q cycles
   part_is = rw (made, sub-zero, append_assoc) (take_at (reported running q cycles) (drop (length q) x ++ rest) (length q) long)
 
@@ -50,10 +42,6 @@ module _ (running : ℕ) (q x : List ℕ) {ys : List ℕ} (made : ys ≡ held ru
         arrivals = reported_le running arrival_limit q cycles h.small;
         small = h.sums;
       })
-
-  pub pass_done : {t : ℕ} → t ≡ arrival_time_of running → (run : List ℕ) {run' : List ℕ} → run' ≡ added (length run) t 1 (take (length q - 0) (ys ++ rest)) run →
-      run' ≡ added (length run) (arrival_time_of running) 1 (reported running q cycles) run
-  pass_done time run er = er ∙ rw (part_is, time)
 
 -- ---- the three discharges, as a point takes them
 
@@ -92,9 +80,6 @@ module _ {s : Segment} {b : ℕ} {r : ℕ → ℕ} {run : List ℕ} (h : Passing
 
   passing_le : (k : ℕ) → get_or run k 0 ≤ b
   passing_le = rw h.is (tab_each_le b r 1 s.cycle (λ step first last. h.small step first (omega arith)))
-
-  pub passing_short : Ranges s → length run < step_bound
-  passing_short ranges = omega (arith, passing_length, ranges.cycle)
 
   -- what the next entry asks
   pub passing_fits : b ≤ run_limit → Ranges s → {e : Entry} → EntryRanges s.cycle e → (running : ℕ) → running ≤ most_running →

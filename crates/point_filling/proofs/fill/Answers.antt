@@ -1,0 +1,13 @@
+-- With no points nothing is written or counted; else the discharges stand in front of their array, then each point is filled.
+use Rattle.std.proofs.Common.{sym}
+use Rattle.points.proofs.Laws.{none_given}
+use Rattle.point_flows.proofs.Laws.{no_runs, no_counts}
+use Rattle.point_filling.proofs.Discharging.{discharging}
+use Rattle.point_filling.proofs.fill.Goals as goal
+
+pub returns-then-points-eq0 : goal.returns-then-points-eq0
+returns-then-points-eq0 c =
+    rw (none_given c.args.points c.if-points-eq0.true) (record { out_after = sym (no_runs _ _); value = sym (no_counts _) })
+
+pub fill_each-requires : goal.fill_each-requires
+fill_each-requires c = discharging _ _ c.fill_profiles.auto.profile c.requires _ c.fill_profiles.ensures
