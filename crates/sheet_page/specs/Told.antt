@@ -1,7 +1,7 @@
 -- Where each number of a sheet stands on its page, and that its digits read back as the number.
 use Prim.Native.Nat.{ℕ, ◌+◌, ◌/◌, ◌%◌, ◌≤◌, ◌<◌}
 use Rattle.std.specs.Prelude.{◌≡◌}
-use mathlib.Core.List.{List, []}
+use mathlib.Core.List.{List}
 use Rattle.std.proofs.Math.ListN.{length, get_or}
 use Rattle.runs.specs.Runs.{run_at}
 use Rattle.text.specs.Text.{decimal, column}
