@@ -1,12 +1,5 @@
 -- The ways of the call with points, from those of the working, over plain variables.
-use Prim.Native.Nat.{ℕ, ◌*◌, ◌≤◌}
-use native.Mathlib.Omega.{arith}
-use mathlib.Core.Path.{◌≡◌, refl, ap, sym, subst, ◌∙◌}
-use mathlib.Core.List.{List}
-use lib.Dec.{leb}
-use lib.Ieee.{Float}
-use lib.ListN.{length}
-use borrow.Author.Tests.{leb-true}
+use Rattle.std.proofs.Common.{ℕ, ◌*◌, ◌≤◌, arith, ◌≡◌, refl, ap, sym, subst, ◌∙◌, List, leb, Float, length, leb-true}
 use Rattle.refusal.specs.Refusal.{Or, ok, false_true, both}
 use Rattle.segment.specs.declared.Segment.{Segment}
 use Rattle.ranges.specs.Ranges.{Ranges}
@@ -16,43 +9,23 @@ use Rattle.validation.specs.Accepted.{Accepted}
 use Rattle.validation.specs.Accepting.{checked_refused, checked_valid}
 use Rattle.validation.proofs.Accepting.{accept_passed}
 use Rattle.balance_decision.specs.declared.Outcome.{Outcome}
-use Rattle.balance_decision.specs.declared.Outcome.TheVariants.{Worked, Refused, Unsettled}
+use Rattle.balance_decision.specs.declared.Outcome.TheVariants.{Worked, Refused}
 use Rattle.propagation.specs.Propagation.{Profiles}
 use Rattle.accuracy.specs.Accuracy.{Accurate}
-use Rattle.working_outcome.specs.declared.Working.{Working}
 use Rattle.working_outcome.specs.Answer.{refused_with}
 use Rattle.working.specs.Working.{fits, decision_for, Called, called, by_decision}
 use Rattle.working.specs.Decided.{fits_room, own_case}
 use Rattle.working.proofs.Decided.{decided_accurate}
 use Rattle.points.specs.declared.Points.{Points}
 use Rattle.points.specs.Points.{most_points, given}
-use Rattle.point_flows.specs.PointFlows.{point_runs, point_counts}
+use Rattle.point_flows.specs.PointFlows.{point_runs}
 use Rattle.point_filling.specs.Steps.{FillFits}
 use Rattle.point_flows.specs.PointAccuracy.{PointsAccurate}
 use Rattle.point_flows.proofs.Holds.{points_accurate}
 use Rattle.point_working.specs.declared.PointWorking.{PointWorking}
-use Rattle.point_working.specs.PointWorking.{accept_of, none_blocked, answered, PointCalled, point_called, passing_after, counts_after, with_points}
+use Rattle.point_working.specs.PointWorking.{accept_of, none_blocked, answered, PointCalled, point_called, passing_after, with_points}
 use Rattle.point_working.specs.PointWorking.{point_call_of, PointWorks}
 use Rattle.point_working.specs.Steps.{Accepts}
-
--- ---- the points, by the outcome
-
-module _ (s : Segment) (ps : Points) (q : List ℕ) {o : Outcome} where
-  pub points_worked : (x : Float) → o ≡ Worked x → {q' counts : List ℕ} → q' ≡ point_runs s (given ps) q → counts ≡ point_counts s (given ps) →
-      (q' ≡ passing_after o s ps q) × (counts ≡ counts_after o s ps)
-  points_worked x e eq ec = rw e (eq, ec)
-
-  pub points_refused : (n : ℕ) → o ≡ Refused n → (q ≡ passing_after o s ps q) × (none_blocked ≡ counts_after o s ps)
-  points_refused n e = rw e (refl, refl)
-
-  pub points_unsettled : (x : Float) → o ≡ Unsettled x → (q ≡ passing_after o s ps q) × (none_blocked ≡ counts_after o s ps)
-  points_unsettled x e = rw e (refl, refl)
-
--- ---- a working that was called, and its points
-
-pub worked_is : (s : Segment) (ps : Points) (q : List ℕ) {c : Called} {w : Working} {p' : Profiles} → called w p' ≡ c → {counts q' : List ℕ} →
-    counts ≡ counts_after w.outcome s ps → q' ≡ passing_after w.outcome s ps q → point_called (answered w counts) p' q' ≡ with_points s ps c q
-worked_is s ps q is ec eq = rw (ec, eq) (ap (λ (d : Called). with_points s ps d q) is)
 
 -- ---- what a call that works has left
 

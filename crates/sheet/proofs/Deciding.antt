@@ -1,11 +1,6 @@
 -- The ways of the call, from those of the working, over plain variables.
-use Prim.Native.Nat.{ℕ, ◌+◌, ◌^◌, ◌≤◌, ◌<◌}
-use native.Mathlib.Omega.{arith}
-use mathlib.Core.Path.{◌≡◌, ap, subst, ◌∙◌}
-use mathlib.Core.List.{List, ◌++◌}
-use lib.Ieee.{Float}
-use lib.ListN.{length, drop, get_or}
-use borrow.Author.Tests.{le-leb, lt-leb}
+use Rattle.std.specs.Prelude.{ℕ, ◌+◌, ◌^◌, ◌≤◌, ◌<◌, ◌≡◌, List, ◌++◌, Float, length, drop, get_or}
+use Rattle.std.proofs.Common.{arith, ap, subst, ◌∙◌}
 use Rattle.refusal.specs.Refusal.{false_true}
 use Rattle.octets.specs.Octets.{word4}
 use Rattle.buffer.specs.Buffer.{Wrote}
@@ -17,7 +12,7 @@ use Rattle.validation.specs.declared.Checked.TheVariants as checked
 use Rattle.validation.specs.Validation.{checked_of}
 use Rattle.validation.specs.Accepting.{checked_valid}
 use Rattle.validation.proofs.Accepting.{accept_passed}
-use Rattle.balance_decision.specs.declared.Outcome.TheVariants.{Worked, Refused, Unsettled}
+use Rattle.balance_decision.specs.declared.Outcome.TheVariants.{Worked, Refused}
 use Rattle.balance_decision.specs.declared.Decision.{Decision}
 use Rattle.accuracy.specs.Accuracy.{Accurate}
 use Rattle.propagation.specs.Propagation.{Profiles}
@@ -32,10 +27,9 @@ use Rattle.working.proofs.Ways.{accept_for, call_passed, call_accepted, call_ref
 use Rattle.page.specs.Page.{page_room}
 use Rattle.sheet_page.specs.SheetPage.{worked_page}
 use Rattle.sheet_page.proofs.Pages.{worked_long}
-use Rattle.sheet.specs.Sheet.{SheetCalled, sheet_called, printed, sheet_by, sheet_call_of, Sheets}
+use Rattle.sheet.specs.Sheet.{sheet_called, printed, sheet_by, sheet_call_of, Sheets}
 use Rattle.sheet.specs.Sized.{sheet_sized}
-use Rattle.sheet.specs.Laws.{page_laid_out, page_told}
-use Rattle.sheet.proofs.Laws.{beneath}
+use Rattle.sheet.proofs.Laws.{beneath, page_laid_out, page_told}
 
 -- ---- filling what is decided to work
 
@@ -52,26 +46,6 @@ sheet_filled {s} {x} {d} {p} h number four {w} {p'} e page room {page'} v =
     let z : 0 + length text ≡ page_room = omega arith in
     let written : page' ≡ text ++ drop page_room page = rw z at (wrote_fits v (omega arith)).0 in
     ap (λ (b : List ℕ). sheet_called w p' b) written ∙ ap (λ (c : Called). printed number s.cycle c page) e
-
--- ---- what the volumes and the page buffer decide
-
-module _ (number : ℕ) (s : Segment) (p : Profiles) (page : List ℕ) {d : Decision} (e : d ≡ decision_for s) where
-  abbrev decided : SheetCalled
-  decided = sheet_by (decision_for s).outcome number s.cycle (by_decision s (decision_for s) p) p page
-
-  pub sheet_refused : (n : ℕ) → d.outcome ≡ Refused n → {w : Working} → w ≡ refused_with d.outcome → sheet_called w p page ≡ decided
-  sheet_refused n eo ew = rw (← e, ew, eo)
-
-  pub sheet_unsettled : (x : Float) → d.outcome ≡ Unsettled x → {w : Working} → w ≡ refused_with d.outcome → sheet_called w p page ≡ decided
-  sheet_unsettled x eo ew = rw (← e, ew, eo)
-
-  pub sheet_short : (x : Float) → d.outcome ≡ Worked x → length page < page_room → {w : Working} → w ≡ refused_with (Refused 21) →
-      sheet_called w p page ≡ decided
-  sheet_short x eo short ew = rw (← e, ew, eo, lt-leb page_room (length page) short)
-
-  pub sheet_printed : (x : Float) → d.outcome ≡ Worked x → page_room ≤ length page → {w : Working} {p' : Profiles} {page' : List ℕ} →
-      sheet_called w p' page' ≡ printed number s.cycle (by_outcome (Worked x) s (decision_for s) p) page → sheet_called w p' page' ≡ decided
-  sheet_printed x eo room q = q ∙ rw (← e, eo, le-leb page_room (length page) room)
 
 -- ---- what the record decides
 
