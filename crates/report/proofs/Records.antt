@@ -1,10 +1,6 @@
 -- The text of one record, and of the records of an archive one after another.
-use Prim.Native.Nat.{ℕ, suc, ◌+◌, ◌-◌, ◌≤◌, ◌<◌}
-use native.Mathlib.Omega.{arith}
-use mathlib.Core.Path.{◌≡◌, ap, sym, ◌∙◌}
-use mathlib.Core.List.{List}
-use lib.ListN.{length, take, drop}
-use borrow.Author.Tests.{lt-ltb, le-ltb}
+use Rattle.std.specs.Prelude.{ℕ, suc, ◌+◌, ◌-◌, ◌≤◌, ◌≡◌, List, length, take, drop}
+use Rattle.std.proofs.Common.{arith, ap, sym, ◌∙◌}
 use Rattle.limits.specs.Limits.{most_cycle}
 use Rattle.octets.specs.Octets.{word2, word4}
 use Rattle.buffer.specs.Buffer.{Wrote}
@@ -14,7 +10,7 @@ use Rattle.segment.specs.declared.Segment.{Segment}
 use Rattle.segment.specs.Layout.{size, cycle_at}
 use Rattle.segment.specs.Segment.{segment_of}
 use Rattle.propagation.specs.Propagation.{Profiles}
-use Rattle.propagation.specs.Steps.{Room, room_kept}
+use Rattle.propagation.specs.Steps.{Room}
 use Rattle.working_outcome.specs.declared.Working.{Working}
 use Rattle.working.specs.Working.{Called, called, Works, call_of}
 use Rattle.working.proofs.Ways.{call_worked}
@@ -25,7 +21,7 @@ use Rattle.archive_open.specs.Walking.{Walk, walk_on}
 use Rattle.report_lines.specs.Lines.{archive_refused_line}
 use Rattle.sheet_page.specs.SheetPage.{RunStands}
 use Rattle.report.specs.declared.Form.{Form}
-use Rattle.report.specs.Report.{input_limit, longest, text_in, segment_text, records_text, archive_text, input_text}
+use Rattle.report.specs.Report.{longest, text_in, segment_text, records_text, archive_text}
 use Rattle.report.specs.Working.{same_text, longest_room}
 
 -- ---- one record
@@ -58,15 +54,6 @@ module _ (l : List ℕ) {p p' : Profiles} {w : Working} (room : Room most_cycle 
 
 -- ---- the records in order
 
--- the profiles keep their lengths
-pub record Kept (p₀ p : Profiles) : Type 0 where
-  pub output : length p.output ≡ length p₀.output
-  pub first : length p.first ≡ length p₀.first
-  pub second : length p.second ≡ length p₀.second
-
-pub kept_room : {p₀ p : Profiles} → Kept p₀ p → Room most_cycle p₀ → Room most_cycle p
-kept_room {p₀} {p} k r = room_kept p₀ p r k.output k.first k.second
-
 -- the text so far and that of the records left
 pub record Reporting (form : Form) (l : List ℕ) (count : ℕ) (b₀ : List ℕ) (at : ℕ) (b : List ℕ) (left place p : ℕ) : Type 0 where
   pub walk : Walk size l left place
@@ -98,11 +85,3 @@ module _ (form : Form) (l : List ℕ) {b : List ℕ} {at : ℕ} {b' : List ℕ} 
       Wrote b at (records_text form (filed_from size count l 0)) b' p → Wrote b at (archive_text form l) b' p
   unfolding archive_text
   archive_read h v = rw (held_filed first_edition l h) v
-
-  pub input_long : input_limit < length l → Wrote b at (archive_refused_line 2) b' p → Wrote b at (input_text form l) b' p
-  unfolding input_text
-  input_long h v = rw (lt-ltb _ _ h) v
-
-  pub input_short : length l ≤ input_limit → Wrote b at (archive_text form l) b' p → Wrote b at (input_text form l) b' p
-  unfolding input_text
-  input_short h v = rw (le-ltb _ _ h) v

@@ -91,6 +91,7 @@ fn archive_text(
     }
 }
 
+#[tactic(auto, unfolding(crate::specs::Report::input_text))]
 pub(crate) fn input_text(
     form: Form,
     text: &mut [u8],
