@@ -321,7 +321,7 @@ def mend():
             continue
         for f in sorted(os.listdir(proofs)):
             p = os.path.join(proofs, f)
-            first = re.match(r"-- Laws of specs/(\w+)\.antt", open(p, encoding="utf-8").readline()) if f.endswith(".antt") else None
+            first = re.match(r"-- Laws (?:of|that stood in) specs/(\w+)\.antt", open(p, encoding="utf-8").readline()) if f.endswith(".antt") else None
             if first:
                 home[f"Rattle.{c}.specs.{first[1]}"] = (f"Rattle.{c}.proofs.{f[:-5]}", declared(os.path.join(specs, first[1] + ".antt")), declared(p))
     for folder, inner, names in os.walk("crates"):

@@ -1,4 +1,4 @@
--- Laws of specs/Holds.antt: Demand 3 holds of every filling: its parts are the laws of exact and pair_parts, at the definitions of the working.
+-- Laws that stood in specs/Holds.antt: Demand 3 holds of every filling: its parts are the laws of exact and pair_parts, at the definitions of the working.
 use Prim.Native.Nat.{ℕ, suc, ◌+◌, ◌-◌, ◌*◌, ◌≤◌, ◌<◌}
 use native.Mathlib.Omega.{arith}
 use Rattle.std.specs.Prelude.{◌≡◌, List, ◌++◌, take, drop}

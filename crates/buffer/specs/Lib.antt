@@ -1,3 +1,3 @@
--- To read: Buffer has every definition that the contract cites. Pieces: the laws of pieces put one after another.
+-- To read: Buffer has every definition that the contract cites. Pieces: pieces put one after another; their laws are in proofs/.
 pub mod Buffer
 pub mod Pieces

@@ -17,7 +17,7 @@ use Rattle.discharge.specs.declared.Discharged.{Discharged}
 use Rattle.discharge.specs.declared.Discharged.TheVariants as d
 use Rattle.entries.specs.Entries.{entry_profiles}
 use Rattle.discharge.specs.Discharge.{accept_of, answer_of, Calls}
-use Rattle.discharge.proofs.LawsLaws.{called}
+use Rattle.discharge.proofs.Answered.{called}
 
 -- the three volumes
 pub all_answered : (s : Segment) {o : Counts} → o ≡ discharge_volumes s → d.Volumes o.left o.through o.right ≡ answer_of (ok s)

@@ -1,4 +1,4 @@
--- Laws of specs/Laws.antt: What the repeating flow is: it satisfies the recurrence in every step and around the cycle, and it is the only flow that does.
+-- Laws that stood in specs/Laws.antt: the repeating flow satisfies the recurrence in every step and around the cycle, and is the only flow that does.
 use Prim.Native.Nat.{ℕ, zero, suc, ◌+◌, ◌*◌, ◌^◌, ◌≤◌, ◌<◌}
 use Rattle.std.proofs.Math.Nat.{pow-zero, pow-succ', one-le-pow, pow-le-pow_left, pow-lt-pow_left, eq_of_mul-eq-mul_left}
 use Rattle.std.proofs.Common.{mul-pos, le-add_left, arith, ◌∙◌}

@@ -7,7 +7,7 @@ use Rattle.point_working.specs.PointWorking as pointed
 use Rattle.discharge.specs.declared.Discharged.{Discharged}
 use Rattle.discharge.specs.declared.Discharged.TheVariants.{Refused as RefusedVolumes, Volumes}
 use Rattle.discharge.specs.Discharge.{EntriesDischarge, Calls}
-use Rattle.discharge.proofs.LawsLaws.{refused_above}
+use Rattle.discharge.proofs.Answered.{refused_above}
 use Rattle.archive_format.specs.declared.Answer.{Answer}
 use Rattle.archive_format.specs.Archive.{Writes}
 use Rattle.exports.specs.declared.VolumesAnswer.{VolumesAnswer}

@@ -1,4 +1,5 @@
--- Laws of specs/Holds.antt.
+-- Laws that stood in specs/Holds.antt: every point's run is near the exact flows: what lands is as near as the arrivals of its entry, and three
+-- entries are added. The laws take the exact flow of an entry and its distance as parameters.
 use Prim.Native.Nat.{ℕ, suc, ◌+◌, ◌-◌, ◌*◌, ◌≤◌, ◌<◌}
 use native.Mathlib.Omega.{arith}
 use Rattle.std.specs.Prelude.{true, ◌≡◌, refl, List, take}

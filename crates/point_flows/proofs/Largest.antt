@@ -1,4 +1,4 @@
--- Laws of specs/Largest.antt: The largest flow past a point, and a point at the end of the segment.
+-- Laws that stood in specs/Largest.antt: The largest flow past a point, and a point at the end of the segment.
 use Rattle.std.specs.Prelude.{ℕ, ◌≤◌, ◌<◌, ◌≡◌}
 use Rattle.std.proofs.Common.{arith}
 use Rattle.limits.specs.Limits.{flow_limit}

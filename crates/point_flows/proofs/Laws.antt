@@ -1,4 +1,4 @@
--- Laws of specs/Laws.antt: Laws of the points' runs: each number of each run, the numbers beyond, none of no points, and what of an entry lands in a step.
+-- Laws that stood in specs/Laws.antt: each number of each point's run, the numbers beyond, none of no points, and what of an entry lands in a step.
 use Rattle.std.specs.Prelude.{ℕ, zero, suc, ◌+◌, ◌-◌, ◌*◌, ◌≤◌, ◌<◌, ◌≡◌, refl, List, [], ◌∷◌, ◌++◌, length, drop, get_or, replicate}
 use Rattle.std.proofs.Common.{arith, ap, sym, ◌∙◌, drop_at, drop-drop}
 use Rattle.lists.specs.Lists.{tab_length, tab_at, number_at}

@@ -1,4 +1,4 @@
--- Laws of specs/Laws.antt: What the call says where it works: the working beneath it, as called, and the page; and what the page then looks like.
+-- Laws that stood in specs/Laws.antt: What the call says where it works: the working beneath it, as called, and the page; and what the page then looks like.
 use Rattle.std.specs.Prelude.{ℕ, ◌<◌, Bool, true, false, cond, ◌≡◌, List, ◌++◌, leb, Float, length, drop, get_or}
 use Rattle.std.proofs.Math.Path.{refl}
 use Rattle.std.proofs.Common.{ap, sym, subst, ◌∙◌}

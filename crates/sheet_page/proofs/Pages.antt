@@ -1,4 +1,4 @@
--- Laws of specs/Pages.antt: A record's page reads the output by its through run alone, and has the bytes of a page.
+-- Laws that stood in specs/Pages.antt: A record's page reads the output by its through run alone, and has the bytes of a page.
 use Rattle.std.specs.Prelude.{ℕ, ◌^◌, ◌<◌, ◌≡◌, refl, List, Float, length}
 use Rattle.std.proofs.Common.{arith, ap}
 use Rattle.runs.specs.Runs.{run_at}

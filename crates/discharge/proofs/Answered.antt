@@ -1,4 +1,4 @@
--- Laws of specs/Laws.antt: Of every accepted record each entry's run in the profile is its discharge, at the volume answered; no refusal has the number 0.
+-- Laws that stood in specs/Laws.antt: of every accepted record each entry's run in the profile is its discharge, at the volume answered; no refusal has the number 0.
 use Rattle.std.specs.Prelude.{ℕ, ◌<◌, ◌≡◌, refl, List, ltb, length}
 use Rattle.std.proofs.Common.{ap, ◌∙◌, ltb-true}
 use Rattle.refusal.specs.Refusal.{Or, refused, ok, false_true}
