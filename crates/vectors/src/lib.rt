@@ -6,7 +6,7 @@ ghost use Rattle.std.specs.Io.KnownBytes.{Appends};
 ghost use Rattle.std.specs.Float.{binary64};
 ghost use Rattle.std.specs.Float.Ieee.{to_bits};
 ghost use Rattle.octets.specs.Octets.{word4};
-ghost use Rattle.buffer.specs.Buffer.{Wrote};
+ghost use Rattle.buffer.specs.Buffer.{Wrote, next_place};
 ghost use Rattle.vectors.specs.Vectors.{byte_pattern, closing_line, float_differs, pattern, profile_differs, rows_differ, words_differ};
 
 use std::io;
@@ -86,6 +86,7 @@ pub fn finish<W: Write>(
     cases: u32,
     differing: u32,
 ) -> io::Result<usize>
+    ensures filled { Wrote line.old 0 (closing_line cases differing) line.new (next_place line.old 0 (closing_line cases differing)) }
     ensures held { IfOk result (λ n. Wrote line.old 0 (closing_line cases differing) line.new n) }
     ensures written { IfOk result (λ n. Appends (W.contents output.old) (W.contents output.new) (take n line.new)) }
 {
