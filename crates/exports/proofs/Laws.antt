@@ -3,7 +3,6 @@ use Rattle.std.specs.Prelude.{ℕ, ◌≡◌, refl, List, length}
 use Rattle.std.proofs.Common.{arith, sym, ap, ◌∙◌}
 use Rattle.refusal.specs.Refusal.{Or}
 use Rattle.segment.specs.Segment.{segment_of}
-use Rattle.point_working.specs.PointWorking as pointed
 use Rattle.discharge.specs.declared.Discharged.{Discharged}
 use Rattle.discharge.specs.declared.Discharged.TheVariants.{Refused as RefusedVolumes, Volumes}
 use Rattle.discharge.specs.Discharge.{EntriesDischarge, Calls}
