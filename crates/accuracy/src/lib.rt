@@ -1,2 +1,2 @@
-// Demand 3 is a theorem in specs/: nothing runs here.
+// Demand 3 is a definition in specs/ and a theorem in proofs/: nothing runs here.
 #![tactic(auto)]

@@ -1,2 +1,2 @@
-// The repeating flow and its laws are in specs/: nothing runs here.
+// The repeating flow is in specs/, its laws are there and in proofs/: nothing runs here.
 #![tactic(auto)]
