@@ -7,8 +7,7 @@ use Rattle.std.proofs.Common.{subst, not-suc-le-zero, below_more}
 use Rattle.std.proofs.Math.Numerals.{add-one}
 use native.Mathlib.Omega.{arith}
 use Rattle.std.specs.Float.Ieee.{lt}
-use Rattle.movements.specs.declared.Counts.{Counts}
-use Rattle.movements.specs.declared.Seeds.{Seeds}
+use Rattle.movements.specs.PerMovement.{Counts, Seeds}
 use Rattle.balance_flows.specs.declared.Flows.{Flows}
 use Rattle.balance_flows.specs.declared.FlowTable.{FlowTable}
 use Rattle.balance_round.specs.Round.{stops}

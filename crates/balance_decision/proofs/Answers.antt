@@ -3,8 +3,7 @@
 use Rattle.std.proofs.Common.{◌≡◌, Bool, true, false, ◌||◌}
 use Rattle.std.specs.Float.{Float}
 use Rattle.refusal.specs.Refusal.{need}
-use Rattle.movements.specs.declared.Counts.{Counts}
-use Rattle.movements.specs.declared.Seeds.{Seeds}
+use Rattle.movements.specs.PerMovement.{Counts, Seeds}
 use Rattle.balance.specs.declared.Balance.{Balance}
 use Rattle.balance.specs.declared.Settling.TheVariants as settling
 use Rattle.balance.specs.Settling.{balanced}

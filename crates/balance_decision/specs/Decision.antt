@@ -1,8 +1,7 @@
 -- The decision on volumes and seeds: refusals 13, 14, 15 in order, or the pair flows.
 use Rattle.std.specs.Prelude.{ℕ, ◌||◌, not}
 use Rattle.refusal.specs.Refusal.{Or, refused, ok, need}
-use Rattle.movements.specs.declared.Counts.{Counts}
-use Rattle.movements.specs.declared.Seeds.{Seeds}
+use Rattle.movements.specs.PerMovement.{Counts, Seeds}
 use Rattle.balance_flows.specs.declared.FlowTable.{FlowTable}
 use Rattle.balance_flows.specs.Flows.{zero64}
 use Rattle.balance.specs.declared.Settling.{Settling}

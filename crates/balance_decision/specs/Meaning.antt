@@ -4,8 +4,7 @@ use Rattle.std.specs.Prelude.{ℕ, ◌≤◌, Bool, not, ◌||◌, [], ◌∷◌
 use Rattle.std.proofs.Math.Bool.{true, false}
 use native.Mathlib.Omega.{arith}
 use Rattle.refusal.specs.Refusal.{ok, need}
-use Rattle.movements.specs.declared.Counts.{Counts}
-use Rattle.movements.specs.declared.Seeds.{Seeds}
+use Rattle.movements.specs.PerMovement.{Counts, Seeds}
 use Rattle.movements.specs.Movements.{flow_units}
 use Rattle.balance_flows.specs.declared.FlowTable.{FlowTable}
 use Rattle.balance.specs.declared.Settling.{Settling}

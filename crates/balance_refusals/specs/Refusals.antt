@@ -1,7 +1,6 @@
 -- Refusals 13 and 14, on whole numbers alone.
 use Rattle.std.specs.Prelude.{ℕ, ◌+◌, Bool, ◌&&◌, ◌||◌, not, ltb, eqb}
-use Rattle.movements.specs.declared.Counts.{Counts}
-use Rattle.movements.specs.declared.Seeds.{Seeds}
+use Rattle.movements.specs.PerMovement.{Counts, Seeds}
 
 abbrev pub counts_total : Counts → ℕ
 counts_total x = x.left + x.through + x.right + x.access

@@ -11,7 +11,7 @@ use Rattle.validation.specs.Validation.{checked_of}
 use Rattle.validation.specs.Accepting.{checked_valid}
 use Rattle.validation.proofs.Accepting.{accept_passed}
 use Rattle.ranges.specs.Ranges.{Ranges}
-use Rattle.movements.specs.declared.Counts.{Counts}
+use Rattle.movements.specs.PerMovement.{Counts}
 use Rattle.metering.specs.Metering.{discharge_volumes}
 use Rattle.discharge.specs.declared.Discharged.{Discharged}
 use Rattle.discharge.specs.declared.Discharged.TheVariants as d

@@ -6,7 +6,7 @@ use mathlib.Core.Path.{◌≡◌, ap, ◌∙◌}
 use mathlib.Core.List.{List, ◌++◌, append_assoc}
 use lib.ListN.{length, take, drop, length-append}
 use lib.Seq.{take_at, drop_at, drop-drop}
-use Rattle.movements.specs.declared.Counts.{Counts}
+use Rattle.movements.specs.PerMovement.{Counts}
 use Rattle.segment.specs.declared.Segment.{Segment}
 use Rattle.metering.specs.Metering.{discharge_volume, discharge_volumes}
 use Rattle.entries.specs.Entries.{entry_profile, entry_profiles, ProfilesFit}

@@ -3,7 +3,7 @@ use Rattle.std.specs.Prelude.{ℕ, ◌*◌, min, ◌≤◌, ◌<◌, false, ◌�
 use Rattle.limits.specs.Limits.{least_cycle, most_cycle}
 use Rattle.lists.specs.Lists.{sum, number_at}
 use Rattle.runs.specs.Runs.{run_at}
-use Rattle.movements.specs.declared.Counts.{Counts}
+use Rattle.movements.specs.PerMovement.{Counts}
 use Rattle.movements.specs.Movements.{flow_units}
 use Rattle.signal.specs.Greens.{green_step, in_green}
 use Rattle.segment.specs.declared.Entry.{Entry}

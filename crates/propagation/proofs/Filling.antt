@@ -6,7 +6,7 @@ use mathlib.Core.List.{List, []}
 use lib.ListN.{length, drop, get_or}
 use lib.Seq.{drop_at}
 use Rattle.limits.specs.Limits.{entry_limit}
-use Rattle.movements.specs.declared.Counts.{Counts}
+use Rattle.movements.specs.PerMovement.{Counts}
 use Rattle.movements.specs.Movements.{flow_units}
 use Rattle.segment.specs.declared.Entry.{Entry}
 use Rattle.segment.specs.declared.Segment.{Segment}

@@ -2,7 +2,7 @@
 use Rattle.std.specs.Prelude.{ℕ, ◌*◌, ◌≤◌, ◌<◌, ◌≡◌, List, [], ◌++◌, length, drop, get_or}
 use Rattle.std.proofs.Common.{arith}
 use Rattle.limits.specs.Limits.{least_cycle, most_cycle, most_running}
-use Rattle.movements.specs.declared.Counts.{Counts}
+use Rattle.movements.specs.PerMovement.{Counts}
 use Rattle.movements.specs.Movements.{flow_units}
 use Rattle.segment.specs.declared.Entry.{Entry}
 use Rattle.segment.specs.declared.Segment.{Segment}

@@ -2,7 +2,7 @@
 use Rattle.std.proofs.Common.{ℕ, ◌*◌, ◌≡◌, ap, sym, subst, ◌∙◌, List, drop, arith}
 use Rattle.std.specs.Float.{Float}
 use Rattle.refusal.specs.Refusal.{false_true}
-use Rattle.movements.specs.declared.Counts.{Counts}
+use Rattle.movements.specs.PerMovement.{Counts}
 use Rattle.segment.specs.declared.Segment.{Segment}
 use Rattle.ranges.specs.Ranges.{Ranges}
 use Rattle.validation.specs.declared.Checked.TheVariants as checked

@@ -1,6 +1,6 @@
 -- After access, and after each entry in turn, the profiles hold what was added so far (`Filling`); after the right entry, the whole.
 use Rattle.std.proofs.Common.{ap, arith}
-use Rattle.movements.specs.declared.Counts.{Counts}
+use Rattle.movements.specs.PerMovement.{Counts}
 use Rattle.metering.specs.Metering.{discharge_volumes}
 use Rattle.propagation.proofs.Filling.{fill_begin, fill_asks, then_entry, then_last}
 use Rattle.propagation.proofs.fill.Goals as goal
