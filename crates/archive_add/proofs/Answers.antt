@@ -1,8 +1,9 @@
 -- Adding's answers, by what opening answered and by each test in turn.
-use Rattle.std.specs.Prelude.{ℕ, ◌+◌, ◌*◌, ◌≤◌, ◌<◌, ◌≡◌, Bool, true, List, [], ◌∷◌, ◌++◌, leb, ltb, length, take, drop}
+use Rattle.std.specs.Prelude.{ℕ, ◌+◌, ◌*◌, ◌≤◌, ◌<◌, ◌≡◌, Bool, true, List, [], ◌∷◌, ◌++◌, leb, ltb, length, take, drop, Ok, Err}
 use Rattle.std.proofs.Common.{arith, sym, ap, ◌∙◌, zero-add, append_assoc, append-nil, length-append, take_at, leb-true, ltb-true, eq-eqb, ne_eqb}
 use Rattle.std.proofs.Math.Nat.{mul-le-mul}
-use Rattle.refusal.specs.Refusal.{refused, ok, need, both}
+use Rattle.refusal.specs.declared.Refusal.TheVariants.{Title, Order, Record, BufferRoom, Full}
+use Rattle.refusal.specs.Refusal.{need, both}
 use Rattle.refusal.specs.Peel.{Tested, Peeled, peel, ◌past◌, held_before}
 use Rattle.octets.specs.Octets.{word4, bytes2, word2_bound}
 use Rattle.archive_format.specs.declared.Edition.{Edition}
@@ -101,16 +102,16 @@ module _ (e : Edition) (l : List ℕ) {count t last : ℕ} (h : Held e l count t
 pub short_title : (ti : List ℕ) → title_fits ti ≡ true → length ti ≤ title_limit
 short_title ti f = leb-true _ _ (both _ _ f).0
 
-pub add_refused : (e : Edition) (l b ti out : List ℕ) (n : ℕ) → add_of e l b ti (length out) ≡ refused n → Adds e l b ti out (Refused n) out
+pub add_refused : (e : Edition) (l b ti out : List ℕ) (n : ℕ) → add_of e l b ti (length out) ≡ Err n → Adds e l b ti out (Refused n) out
 add_refused e l b ti out n r = record { answer = sym (rw r); buffer = sym (rw r) }
 
 module _ (e : Edition) (l b ti : List ℕ) where
-  pub add_invalid : (room n : ℕ) → opened_of (decode e l) ≡ Invalid n → add_of e l b ti room ≡ refused n
+  pub add_invalid : (room n : ℕ) → opened_of (decode e l) ≡ Invalid n → add_of e l b ti room ≡ Err n
   unfolding add_of
   add_invalid room n o = rw (invalid e l n o)
 
   module _ {count t last : ℕ} (h : Held e l count t last) where
-    pub add_sized : (room : ℕ) → (length b ≡ e.size → ⊥) → add_of e l b ti room ≡ refused 6
+    pub add_sized : (room : ℕ) → (length b ≡ e.size → ⊥) → add_of e l b ti room ≡ Err Record
     unfolding add_of add_to need
     add_sized room f = rw (h.is, ne_eqb _ _ f)
 
@@ -118,21 +119,21 @@ module _ (e : Edition) (l b ti : List ℕ) where
       -- the tests of a record of the right size, by what is known of the archive
       pub add_tests : (room : ℕ) {fits : Bool} {number : ℕ} → fits ≡ title_fits ti → number ≡ word4 b 0
           → add_of e l b ti room
-          ≡ need 4 fits
-          (need 5 (ltb last number)
-          (need 17 (leb (more_length e.size count t (length ti)) room)
-          (need 18 (ltb count record_limit)
-          (ok (grown e l count t b ti)))))
+          ≡ need Title fits
+          (need Order (ltb last number)
+          (need BufferRoom (leb (more_length e.size count t (length ti)) room)
+          (need Full (ltb count record_limit)
+          (Ok (grown e l count t b ti)))))
       unfolding add_of add_to need
       add_tests room ef en = rw (h.is, eq-eqb _ _ sized, ← h.last_is, more_length_lem e l h b ti sized, ← counted e l h, ← grown_is e l h b ti hb, ef, en)
 
       -- the four tests peeled off in order; behind them is what is written
       pub add_tested : (room : ℕ) {fits : Bool} {number : ℕ} → fits ≡ title_fits ti → number ≡ word4 b 0 → {m1 m2 m3 m4 : ℕ}
           → Tested 0 fits 4 m1 → Tested m1 (ltb last number) 5 m2 → Tested m2 (leb (more_length e.size count t (length ti)) room) 17 m3
-          → Tested m3 (ltb count record_limit) 18 m4 → Peeled (add_of e l b ti room) m4 (ok (grown e l count t b ti))
+          → Tested m3 (ltb count record_limit) 18 m4 → Peeled (add_of e l b ti room) m4 (Ok (grown e l count t b ti))
       add_tested room ef en t1 t2 t3 t4 = peel (add_tests room ef en) past t1 past t2 past t3 past t4
 
-      pub add_done : (out : List ℕ) → more_length e.size count t (length ti) ≤ length out → add_of e l b ti (length out) ≡ ok (grown e l count t b ti)
+      pub add_done : (out : List ℕ) → more_length e.size count t (length ti) ≤ length out → add_of e l b ti (length out) ≡ Ok (grown e l count t b ti)
           → {r : ℕ} {out' : List ℕ} → Wrote out 0 (grown e l count t b ti) out' r → Adds e l b ti out (Value r) out'
       add_done out room y w =
           let long : length (grown e l count t b ti) ≡ more_length e.size count t (length ti) = rw (grown_is e l h b ti hb) (more_length_lem e l h b ti sized) in

@@ -1,10 +1,11 @@
 -- Laws of specs/Adding.antt: Written reads back: where adding accepts, the new archive reads as the old records, in order, and the new one;
-use Rattle.std.specs.Prelude.{ℕ, ◌+◌, ◌≤◌, ◌≡◌, refl, true, List, [], ◌∷◌, ◌++◌, leb, ltb, length}
+use Rattle.std.specs.Prelude.{ℕ, ◌+◌, ◌≤◌, ◌≡◌, refl, true, List, [], ◌∷◌, ◌++◌, leb, ltb, length, Ok, Err}
 use Rattle.std.proofs.Common.{arith, ◌∙◌, leb-true, ltb-true, eqb-true, le-leb, lt-ltb, eq-eqb, ne_eqb}
 use Rattle.std.proofs.Math.Path.{sym, ap}
 use Rattle.std.proofs.Math.ListN.{length-append}
 use Rattle.std.proofs.Math.Seq.{append_snoc}
-use Rattle.refusal.specs.Refusal.{Or, refused, ok, need, and_then, need_passed, need_rest, both, false_true}
+use Rattle.refusal.specs.declared.Refusal.TheVariants.{Record}
+use Rattle.refusal.specs.Refusal.{Or, need, and_then, need_passed, need_rest, both, false_true}
 use Rattle.octets.specs.Octets.{word4}
 use Rattle.archive_format.specs.declared.Edition.{Edition}
 use Rattle.archive_format.specs.Archive.{title_limit, Filed, record_number, body, encode, printables, titled, rising, last_number}
@@ -30,7 +31,7 @@ fit_more e fs b t f w =
     }
 
 -- what is answered was accepted, and is the encoding of the list with the record
-pub accepted : (e : Edition) (fs : List Filed) (b t : List ℕ) (room : ℕ) (new : List ℕ) → add_to e b t room fs ≡ ok new
+pub accepted : (e : Edition) (fs : List Filed) (b t : List ℕ) (room : ℕ) (new : List ℕ) → add_to e b t room fs ≡ Ok new
     → Accepts e fs b t × (new ≡ encode e (fs ++ single b t))
 unfolding add_to
 accepted e fs b t room new a6 =
@@ -48,13 +49,13 @@ accepted e fs b t room new a6 =
     } in
     (accepts, cc (need_rest _ _ _ _ a18))
 
-module _ (e : Edition) (l b t new : List ℕ) (fs : List Filed) (old : decode e l ≡ ok fs) (more : decode e new ≡ ok (fs ++ single b t)) where
-  keep : (n p : ℕ) → find_of e l n ≡ ok p → Kept e l new n p
+module _ (e : Edition) (l b t new : List ℕ) (fs : List Filed) (old : decode e l ≡ Ok fs) (more : decode e new ≡ Ok (fs ++ single b t)) where
+  keep : (n p : ℕ) → find_of e l n ≡ Ok p → Kept e l new n p
   unfolding find_of
   keep n p f =
-      let again : find_of e new n ≡ ok p = rw more (find_more e.size 0 fs (single b t) n p (rw old at f)) in
-      let here : lookup (fs ++ single b t) n ≡ ok (filed_at e.size l p) = lookup_more fs (single b t) n (filed_at e.size l p) (find_is e l fs n p old f) in
-      let there : lookup (fs ++ single b t) n ≡ ok (filed_at e.size new p) = find_is e new (fs ++ single b t) n p more again in
+      let again : find_of e new n ≡ Ok p = rw more (find_more e.size 0 fs (single b t) n p (rw old at f)) in
+      let here : lookup (fs ++ single b t) n ≡ Ok (filed_at e.size l p) = lookup_more fs (single b t) n (filed_at e.size l p) (find_is e l fs n p old f) in
+      let there : lookup (fs ++ single b t) n ≡ Ok (filed_at e.size new p) = find_is e new (fs ++ single b t) n p more again in
       let same : filed_at e.size new p ≡ filed_at e.size l p = cc in
       record {
         found = again;
@@ -63,23 +64,23 @@ module _ (e : Edition) (l b t new : List ℕ) (fs : List Filed) (old : decode e 
       }
 
   -- a number that the old archive has not, and the record has not
-  still_absent : (n : ℕ) → (word4 b 0 ≡ n → ⊥) → find_of e l n ≡ refused 6 → find_of e new n ≡ refused 6
+  still_absent : (n : ℕ) → (word4 b 0 ≡ n → ⊥) → find_of e l n ≡ Err Record → find_of e new n ≡ Err Record
   unfolding lookup
   still_absent n other gone =
       find_absent e new (fs ++ single b t) n 6 more (lookup_after fs (single b t) n 6 (absent_is e l fs n 6 old gone) ∙ rw (ne_eqb _ _ other))
 
-  place_kept : (i p : ℕ) → place_of e l i ≡ ok p → place_of e new i ≡ ok p
+  place_kept : (i p : ℕ) → place_of e l i ≡ Ok p → place_of e new i ≡ Ok p
   unfolding place_of
   place_kept i p h = rw more (place_more e.size 0 fs (single b t) i p (rw old at h))
 
-  counted : count_of e new ≡ ok (length fs + 1)
+  counted : count_of e new ≡ Ok (length fs + 1)
   unfolding count_of
   counted = rw (more, length-append fs (single b t))
 
   read_back : Added e l b t new
   read_back =
       let f : Filed = record { bytes = b; title = t } in
-      let found : find_of e new (word4 b 0) ≡ ok (length (body fs)) = found_is e new fs f [] more in
+      let found : find_of e new (word4 b 0) ≡ Ok (length (body fs)) = found_is e new fs f [] more in
       let same : filed_at e.size new (length (body fs)) ≡ f = record_is e new fs f [] more in
       record {
         fs = fs;
@@ -94,13 +95,13 @@ module _ (e : Edition) (l b t new : List ℕ) (fs : List Filed) (old : decode e 
         absent = still_absent;
       }
 
-pub added : (e : Edition) (l b t : List ℕ) (room : ℕ) (new : List ℕ) → add_of e l b t room ≡ ok new → Added e l b t new
+pub added : (e : Edition) (l b t : List ℕ) (room : ℕ) (new : List ℕ) → add_of e l b t room ≡ Ok new → Added e l b t new
 unfolding add_of
 added e l b t room new a = go (decode e l) refl a
   where
-    go : (x : Or (List Filed)) → decode e l ≡ x → and_then x (λ fs. add_to e b t room fs) ≡ ok new → Added e l b t new
-    go (refused n) r a = false_true (cc)
-    go (ok fs) r a =
+    go : (x : Or (List Filed)) → decode e l ≡ x → and_then x (λ fs. add_to e b t room fs) ≡ Ok new → Added e l b t new
+    go (Err n) r a = false_true (cc)
+    go (Ok fs) r a =
         let w : Accepts e fs b t × (new ≡ encode e (fs ++ single b t)) = accepted e fs b t room new a in
         let f : Fit e fs = decoded_is_fit e l fs r in
         read_back e l b t new fs r (rw w.1 (encoding_reads e (fs ++ single b t) (fit_more e fs b t f w.0)))
@@ -108,14 +109,14 @@ added e l b t room new a = go (decode e l) refl a
 -- ---- the records of a fit list are accepted in turn
 
 -- adding accepts what it asks for, where the buffer holds the new archive
-accepts : (e : Edition) (l : List ℕ) (fs : List Filed) (b t : List ℕ) (room : ℕ) → decode e l ≡ ok fs → Accepts e fs b t
-    → length (encode e (fs ++ single b t)) ≤ room → add_of e l b t room ≡ ok (encode e (fs ++ single b t))
+accepts : (e : Edition) (l : List ℕ) (fs : List Filed) (b t : List ℕ) (room : ℕ) → decode e l ≡ Ok fs → Accepts e fs b t
+    → length (encode e (fs ++ single b t)) ≤ room → add_of e l b t room ≡ Ok (encode e (fs ++ single b t))
 unfolding add_of add_to need
 accepts e l fs b t room r w h = rw (r, eq-eqb _ _ w.sized, le-leb _ _ w.short, w.clean, lt-ltb _ _ w.above, le-leb _ _ h, lt-ltb _ _ w.free)
 
 -- the next record of a fit list
 pub next_accepted : (e : Edition) (fs : List Filed) (g : Filed) (gs : List Filed) (room : ℕ) → Fit e (fs ++ (g ∷ gs))
-    → length (encode e (fs ++ (g ∷ gs))) ≤ room → add_of e (encode e fs) g.bytes g.title room ≡ ok (encode e (fs ++ (g ∷ [])))
+    → length (encode e (fs ++ (g ∷ gs))) ≤ room → add_of e (encode e fs) g.bytes g.title room ≡ Ok (encode e (fs ++ (g ∷ [])))
 unfolding titled rising
 next_accepted e fs g gs room f h =
     let s : Shaped e.size fs × Shaped e.size (g ∷ gs) = shaped_parts e.size fs (g ∷ gs) f.shaped in

@@ -1,8 +1,7 @@
 -- Laws of specs/Decoded.antt: An archive that reads is the encoding of its records, and they are fit to be encoded.
-use Rattle.std.specs.Prelude.{ℕ, suc, ◌+◌, ◌*◌, ◌-◌, ◌≤◌, ◌≡◌, List, [], ◌∷◌, length, drop}
+use Rattle.std.specs.Prelude.{ℕ, suc, ◌+◌, ◌*◌, ◌-◌, ◌≤◌, ◌≡◌, List, [], ◌∷◌, length, drop, Ok}
 use Rattle.std.proofs.Common.{arith, ◌∙◌, drop-cons}
 use Rattle.std.proofs.Math.Seq.{drop-length}
-use Rattle.refusal.specs.Refusal.{ok}
 use Rattle.archive_format.specs.declared.Edition.{Edition}
 use Rattle.archive_format.specs.Archive.{Filed, encode}
 use Rattle.archive_format.specs.Archive.{count_at, trailer_at, decode}
@@ -12,7 +11,7 @@ use Rattle.archive_format.specs.Decoded.{Fit, body_laid, places_laid, shaped_lai
 
 -- ---- every archive that reads is the encoding of its records
 
-pub decoded_is_encoding : (e : Edition) (l : List ℕ) (fs : List Filed) → Bytes l → decode e l ≡ ok fs → l ≡ encode e fs
+pub decoded_is_encoding : (e : Edition) (l : List ℕ) (fs : List Filed) → Bytes l → decode e l ≡ Ok fs → l ≡ encode e fs
 unfolding encode
 decoded_is_encoding e l fs hb r =
     let m : Reads e l fs = reads e l fs r in
@@ -32,7 +31,7 @@ decoded_is_encoding e l fs hb r =
     ∙ rw (places_laid e.size (count_at l) l (trailer_at l) 0 (trailer_at l) hb w w2 m.run, six, word_split l (length l - 6) hb six-in)
     (rw (four, word_split l (length l - 4) hb four-in, pair, tail, m.held) (rw (m.count, m.trailer)))
 
-pub decoded_is_fit : (e : Edition) (l : List ℕ) (fs : List Filed) → decode e l ≡ ok fs → Fit e fs
+pub decoded_is_fit : (e : Edition) (l : List ℕ) (fs : List Filed) → decode e l ≡ Ok fs → Fit e fs
 decoded_is_fit e l fs r =
     let m : Reads e l fs = reads e l fs r in
     record {

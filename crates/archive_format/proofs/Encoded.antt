@@ -1,7 +1,7 @@
 -- Laws of specs/Encoded.antt: The encoding of a fit list reads as that list.
-use Rattle.std.specs.Prelude.{ℕ, ◌+◌, ◌*◌, ◌-◌, ◌≤◌, ◌≡◌, refl, List, [], ◌∷◌, ◌++◌, length, drop, get_or}
+use Rattle.std.specs.Prelude.{ℕ, ◌+◌, ◌*◌, ◌-◌, ◌≤◌, ◌≡◌, refl, List, [], ◌∷◌, ◌++◌, length, drop, get_or, Ok}
 use Rattle.std.proofs.Common.{add-zero, arith, sym, ap, ◌∙◌, length-append, drop-drop, get_or-drop, drop_at, le-leb, eq-eqb}
-use Rattle.refusal.specs.Refusal.{ok, need}
+use Rattle.refusal.specs.Refusal.{need}
 use Rattle.octets.specs.Octets.{bytes2}
 use Rattle.archive_format.specs.declared.Edition.{Edition}
 use Rattle.archive_format.specs.Archive.{Filed, body, places, encode, titled, rising}
@@ -22,7 +22,7 @@ dropped_body : (e : Edition) (fs : List Filed) → drop (length (body fs)) (enco
 unfolding encode
 dropped_body e fs = drop_at (body fs) (places e.size 0 fs ++ ending e fs) (length (body fs)) refl
 
-pub encoding_reads : (e : Edition) (fs : List Filed) → Fit e fs → decode e (encode e fs) ≡ ok fs
+pub encoding_reads : (e : Edition) (fs : List Filed) → Fit e fs → decode e (encode e fs) ≡ Ok fs
 unfolding decode decode_body need
 encoding_reads e fs fit =
     let l : List ℕ = encode e fs in
@@ -52,7 +52,7 @@ encoding_reads e fs fit =
     rw (le-leb _ _ six, eq-eqb _ _ first, eq-eqb _ _ second, count, trailer, le-leb _ _ fit.many, eq-eqb _ _ sized)
     (rw (ran.run, ran.held, fit.titles, fit.risen))
 
-pub empty_reads : (e : Edition) → decode e (encode e []) ≡ ok []
+pub empty_reads : (e : Edition) → decode e (encode e []) ≡ Ok []
 unfolding titled rising
 empty_reads e = encoding_reads e [] (record { shaped = tt; titles = refl; risen = refl; many = omega arith })
 

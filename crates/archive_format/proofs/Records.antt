@@ -1,5 +1,5 @@
 -- Laws of specs/Records.antt: What the reading calls answer of an archive, record by record: place, finding and title of each, and of no other.
-use Rattle.std.specs.Prelude.{ℕ, ◌+◌, ◌≤◌, ◌≡◌}
+use Rattle.std.specs.Prelude.{ℕ, ◌+◌, ◌≤◌, ◌≡◌, Ok, Err}
 use Rattle.std.proofs.Common.{zero-add, arith, sym, ◌∙◌, length-append, ltb-true, eq-eqb}
 use Rattle.std.proofs.Math.Path.{refl, ap}
 use Rattle.std.proofs.Math.Bool.{true}
@@ -7,7 +7,8 @@ use mathlib.Core.List.{List, [], ◌∷◌, ◌++◌, append_assoc}
 use Rattle.std.proofs.Math.Dec.{ltb}
 use Rattle.std.proofs.Math.ListN.{length, drop}
 use Rattle.std.proofs.Math.Seq.{drop_at, append_snoc}
-use Rattle.refusal.specs.Refusal.{Or, refused, ok, and_then, both, false_true}
+use Rattle.refusal.specs.declared.Refusal.TheVariants.{Record}
+use Rattle.refusal.specs.Refusal.{Or, and_then, both, false_true}
 use Rattle.segment.specs.Layout as layout
 use Rattle.archive_format.specs.declared.Edition.{Edition}
 use Rattle.archive_format.specs.declared.Answer.TheVariants.{Value}
@@ -27,12 +28,12 @@ use Rattle.archive_format.specs.Records.{Stands, ReadsAs, records_from}
 -- ---- a record with others before and after it
 
 place_after_lem : (size at : ℕ) (gs : List Filed) (f : Filed) (hs : List Filed) → Shaped size gs
-    → place_in size at (gs ++ (f ∷ hs)) (length gs) ≡ ok (at + length (body gs))
+    → place_in size at (gs ++ (f ∷ hs)) (length gs) ≡ Ok (at + length (body gs))
 unfolding place_in body
-place_after_lem size at [] f hs s = let z : at ≡ at + 0 = omega arith in ap ok z
-place_after_lem size at (g ∷ gs) f hs s = place_after_lem size (at + size + 1 + length g.title) gs f hs s.2 ∙ ap ok (body_next size at g gs s.0)
+place_after_lem size at [] f hs s = let z : at ≡ at + 0 = omega arith in ap Ok z
+place_after_lem size at (g ∷ gs) f hs s = place_after_lem size (at + size + 1 + length g.title) gs f hs s.2 ∙ ap Ok (body_next size at g gs s.0)
 
-module _ (e : Edition) (l : List ℕ) (gs : List Filed) (f : Filed) (hs : List Filed) (r : decode e l ≡ ok (gs ++ (f ∷ hs))) where
+module _ (e : Edition) (l : List ℕ) (gs : List Filed) (f : Filed) (hs : List Filed) (r : decode e l ≡ Ok (gs ++ (f ∷ hs))) where
   abbrev rest : List ℕ
   rest = body hs ++ drop (trailer_at l) l
 
@@ -57,15 +58,15 @@ module _ (e : Edition) (l : List ℕ) (gs : List Filed) (f : Filed) (hs : List F
   pub record_is : filed_at e.size l (length (body gs)) ≡ f
   record_is = laid_record e.size f l (length (body gs)) rest shaped.1.0 laid
 
-  pub place_is : place_of e l (length gs) ≡ ok (length (body gs))
+  pub place_is : place_of e l (length gs) ≡ Ok (length (body gs))
   unfolding place_of
   place_is = rw r (place_after_lem e.size 0 gs f hs shaped.0 ∙ rw zero-add)
 
-  pub found_is : find_of e l (record_number f) ≡ ok (length (body gs))
+  pub found_is : find_of e l (record_number f) ≡ Ok (length (body gs))
   unfolding find_of find_in rising
   found_is =
       let above : ltb (last_number 0 gs) (record_number f) ≡ true = (both _ _ (fit_rises e gs (f ∷ hs) fit)).0 in
-      let gone : find_in e.size 0 gs (record_number f) ≡ refused 6 =
+      let gone : find_in e.size 0 gs (record_number f) ≡ Err Record =
       find_above e.size 0 0 gs (record_number f) (fit_first e gs (f ∷ hs) fit).risen (ltb-true _ _ above) in
       let own : record_number f ≡ record_number f = refl in
       rw r (find_after e.size 0 gs (f ∷ hs) (record_number f) 6 shaped.0 gone ∙ rw (eq-eqb _ _ own, zero-add))
@@ -74,9 +75,9 @@ module _ (e : Edition) (l : List ℕ) (gs : List Filed) (f : Filed) (hs : List F
   unfolding title_part_of
   part_is = rw (found_is, laid_length e.size f l (length (body gs)) rest shaped.1.0 laid)
 
-stands : (e : Edition) (l : List ℕ) (gs : List Filed) (f : Filed) (hs : List Filed) → decode e l ≡ ok (gs ++ (f ∷ hs)) → Stands e l (length gs) f
+stands : (e : Edition) (l : List ℕ) (gs : List Filed) (f : Filed) (hs : List Filed) → decode e l ≡ Ok (gs ++ (f ∷ hs)) → Stands e l (length gs) f
 stands e l gs f hs r =
-    let found : find_of e l (record_number f) ≡ ok (length (body gs)) = found_is e l gs f hs r in
+    let found : find_of e l (record_number f) ≡ Ok (length (body gs)) = found_is e l gs f hs r in
     let same : filed_at e.size l (length (body gs)) ≡ f = record_is e l gs f hs r in
     record {
       place = length (body gs);
@@ -87,32 +88,32 @@ stands e l gs f hs r =
       title = title_is e l (record_number f) (length (body gs)) found ∙ ap (λ (z : Filed). z.title) same;
     }
 
-pub reads_as : (e : Edition) (l : List ℕ) (fs : List Filed) → decode e l ≡ ok fs → ReadsAs e l fs
+pub reads_as : (e : Edition) (l : List ℕ) (fs : List Filed) → decode e l ≡ Ok fs → ReadsAs e l fs
 unfolding count_of place_of
 reads_as e l fs r =
     record {
       is = r;
       count = rw r;
-      each = λ gs f hs s. stands e l gs f hs (r ∙ ap ok s);
+      each = λ gs f hs s. stands e l gs f hs (r ∙ ap Ok s);
       beyond = λ i h. rw (r, place_beyond e.size 0 fs i h);
       absent = λ n h. ap answer_of (find_absent e l fs n 6 r h);
     }
 
-records_from_lem : (e : Edition) (l : List ℕ) (gs fs : List Filed) → decode e l ≡ ok (gs ++ fs) → records_from e l (length fs) (length gs) ≡ fs
+records_from_lem : (e : Edition) (l : List ℕ) (gs fs : List Filed) → decode e l ≡ Ok (gs ++ fs) → records_from e l (length fs) (length gs) ≡ fs
 unfolding records_from
 records_from_lem e l gs [] r = refl
 records_from_lem e l gs (f ∷ fs) r =
     let s : Stands e l (length gs) f = stands e l gs f fs r in
     let more : length gs + 1 ≡ length (gs ++ (f ∷ [])) = sym (length-append gs (f ∷ [])) in
-    let on : decode e l ≡ ok ((gs ++ (f ∷ [])) ++ fs) = r ∙ ap ok (sym (append_snoc gs f fs)) in
+    let on : decode e l ≡ Ok ((gs ++ (f ∷ [])) ++ fs) = r ∙ ap Ok (sym (append_snoc gs f fs)) in
     rw (s.placed, s.bytes, s.title)
     (ap (λ (zs : List Filed). f ∷ zs) (ap (λ (i : ℕ). records_from e l (length fs) i) more ∙ records_from_lem e l (gs ++ (f ∷ [])) fs on))
 
 -- where count answers, they are the archive's
-pub records_are : (e : Edition) (l : List ℕ) (n : ℕ) → answer_of (count_of e l) ≡ Value n → decode e l ≡ ok (records_from e l n 0)
+pub records_are : (e : Edition) (l : List ℕ) (n : ℕ) → answer_of (count_of e l) ≡ Value n → decode e l ≡ Ok (records_from e l n 0)
 unfolding count_of
 records_are e l n = go (decode e l) refl
   where
-    go : (x : Or (List Filed)) → decode e l ≡ x → answer_of (and_then x (λ fs. ok (length fs))) ≡ Value n → decode e l ≡ ok (records_from e l n 0)
-    go (refused m) r a = false_true (cc)
-    go (ok fs) r a = let z : length fs ≡ n = cc in r ∙ ap ok (sym (records_from_lem e l [] fs r) ∙ rw z)
+    go : (x : Or (List Filed)) → decode e l ≡ x → answer_of (and_then x (λ fs. Ok (length fs))) ≡ Value n → decode e l ≡ Ok (records_from e l n 0)
+    go (Err m) r a = false_true (cc)
+    go (Ok fs) r a = let z : length fs ≡ n = cc in r ∙ ap Ok (sym (records_from_lem e l [] fs r) ∙ rw z)

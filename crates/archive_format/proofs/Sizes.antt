@@ -1,8 +1,8 @@
 -- Laws of specs/Sizes.antt: How long an archive gets, and that two bytes hold its count and its places.
-use Rattle.std.specs.Prelude.{ℕ, zero, suc, ◌+◌, ◌*◌, ◌≤◌, ◌<◌, ◌≡◌, refl, true, List, [], ◌∷◌, ◌++◌, length, replicate}
+use Rattle.std.specs.Prelude.{ℕ, zero, suc, ◌+◌, ◌*◌, ◌≤◌, ◌<◌, ◌≡◌, refl, true, List, [], ◌∷◌, ◌++◌, length, replicate, Ok}
 use Rattle.std.proofs.Common.{mul-le-mul_right, arith, ap, length-append, lt-ltb}
 use Rattle.std.proofs.Math.Nat.{mod-add-div}
-use Rattle.refusal.specs.Refusal.{ok, false_true}
+use Rattle.refusal.specs.Refusal.{false_true}
 use Rattle.octets.specs.Octets.{word4, bytes2}
 use Rattle.segment.specs.Layout as layout
 use Rattle.archive_format.specs.declared.Edition.{Edition}
@@ -17,7 +17,7 @@ use Rattle.archive_format.specs.Sizes.{body_bound, most, Small, numbered}
 pub length_bound : (e : Edition) (fs : List Filed) → Fit e fs → length (encode e fs) ≤ most e
 length_bound e fs f = omega (arith, length_encode e fs, body_bound e.size fs f.shaped, mul-le-mul_right (e.size + 1 + title_limit) f.many)
 
-place_bound : (size p : ℕ) (fs : List Filed) (i x : ℕ) → Shaped size fs → place_in size p fs i ≡ ok x → x ≤ p + length (body fs)
+place_bound : (size p : ℕ) (fs : List Filed) (i x : ℕ) → Shaped size fs → place_in size p fs i ≡ Ok x → x ≤ p + length (body fs)
 unfolding place_in body
 place_bound size p [] i x s h = false_true (cc)
 place_bound size p (f ∷ fs) zero x s h = let e : p ≡ x = cc in omega arith
@@ -36,7 +36,7 @@ encoding_is_small fs f =
       place = λ i p h. omega (arith, place_bound layout.size 0 fs i p f.shaped (rw (encoding_reads first_edition fs f) at h));
     }
 
-pub archive_is_small : (l : List ℕ) (fs : List Filed) → Bytes l → decode first_edition l ≡ ok fs → Small l fs
+pub archive_is_small : (l : List ℕ) (fs : List Filed) → Bytes l → decode first_edition l ≡ Ok fs → Small l fs
 archive_is_small l fs hb r = rw (decoded_is_encoding first_edition l fs hb r) (encoding_is_small fs (decoded_is_fit first_edition l fs r))
 
 number_is : (n : ℕ) → word4 (bytes2 n ++ replicate 66 0) 0 ≡ n

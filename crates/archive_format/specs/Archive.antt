@@ -1,7 +1,8 @@
 -- Archives of segment records: the bytes that hold a list of them, and what reading, finding and adding answer.
 -- Paper 01's words: an archive is a drawer, a segment record a card.
-use Rattle.std.specs.Prelude.{ℕ, zero, suc, ◌+◌, ◌*◌, ◌-◌, ◌≤◌, Bool, true, ◌&&◌, cond, ◌≡◌, List, [], ◌∷◌, ◌++◌, leb, ltb, eqb, length, take, drop, get_or}
-use Rattle.refusal.specs.Refusal.{Or, refused, ok, need, and_then}
+use Rattle.std.specs.Prelude.{ℕ, zero, suc, ◌+◌, ◌*◌, ◌-◌, ◌≤◌, Bool, true, ◌&&◌, cond, ◌≡◌, List, [], ◌∷◌, ◌++◌, leb, ltb, eqb, length, take, drop, get_or, Ok, Err}
+use Rattle.refusal.specs.declared.Refusal.TheVariants.{Mark, Trailer, Places, Title, Order, Record, BufferRoom, Full}
+use Rattle.refusal.specs.Refusal.{Or, need, and_then}
 use Rattle.octets.specs.Octets.{word2, word4, bytes2}
 use Rattle.segment.specs.Layout as layout
 use Rattle.archive_format.specs.declared.Edition.{Edition}
@@ -100,10 +101,10 @@ runs size (suc k) l t at q =
 -- each test over all records before the next test
 unfoldable pub decode_body : ℕ → List ℕ → ℕ → ℕ → Or (List Filed)
 decode_body size l count t =
-    need 3 (runs size count l t 0 t)
-    (need 4 (titled (filed_from size count l 0))
-    (need 5 (rising 0 (filed_from size count l 0))
-    (ok (filed_from size count l 0))))
+    need Places (runs size count l t 0 t)
+    (need Title (titled (filed_from size count l 0))
+    (need Order (rising 0 (filed_from size count l 0))
+    (Ok (filed_from size count l 0))))
 
 abbrev pub count_at : List ℕ → ℕ
 count_at l = word2 l (length l - 6)
@@ -117,19 +118,19 @@ marked e l = eqb (get_or l (length l - 2) 0) e.first && eqb (get_or l (length l 
 -- the end's tests, then the body's
 unfoldable pub decode : Edition → List ℕ → Or (List Filed)
 decode e l =
-    need 1 (leb 6 (length l) && marked e l)
-    (need 2 (leb (count_at l) record_limit && eqb (trailer_at l + 2 * count_at l + 6) (length l))
+    need Mark (leb 6 (length l) && marked e l)
+    (need Trailer (leb (count_at l) record_limit && eqb (trailer_at l + 2 * count_at l + 6) (length l))
     (decode_body e.size l (count_at l) (trailer_at l)))
 
 -- ---- the calls
 
 unfoldable pub count_of : Edition → List ℕ → Or ℕ
-count_of e l = and_then (decode e l) (λ fs. ok (length fs))
+count_of e l = and_then (decode e l) (λ fs. Ok (length fs))
 
 -- the place of the record with an index, where the first stands at p; 6 where there is none
 unfoldable pub place_in : ℕ → ℕ → List Filed → ℕ → Or ℕ
-place_in size p [] i = refused 6
-place_in size p (f ∷ fs) zero = ok p
+place_in size p [] i = Err Record
+place_in size p (f ∷ fs) zero = Ok p
 place_in size p (f ∷ fs) (suc i) = place_in size (place_after size p f) fs i
 
 unfoldable pub place_of : Edition → List ℕ → ℕ → Or ℕ
@@ -137,16 +138,16 @@ place_of e l i = and_then (decode e l) (λ fs. place_in e.size 0 fs i)
 
 -- the place of the record with a number
 unfoldable pub find_in : ℕ → ℕ → List Filed → ℕ → Or ℕ
-find_in size p [] n = refused 6
-find_in size p (f ∷ fs) n = cond (eqb (record_number f) n) (ok p) (find_in size (place_after size p f) fs n)
+find_in size p [] n = Err Record
+find_in size p (f ∷ fs) n = cond (eqb (record_number f) n) (Ok p) (find_in size (place_after size p f) fs n)
 
 unfoldable pub find_of : Edition → List ℕ → ℕ → Or ℕ
 find_of e l n = and_then (decode e l) (λ fs. find_in e.size 0 fs n)
 
 -- where the title of the record at a place stands, behind the record and its own length; and that length
 abbrev pub title_part_at : ℕ → List ℕ → Or ℕ → TitlePart
-title_part_at size l (refused n) = NoPart n
-title_part_at size l (ok p) = Part (p + size + 1) (get_or l (p + size) 0)
+title_part_at size l (Err n) = NoPart n
+title_part_at size l (Ok p) = Part (p + size + 1) (get_or l (p + size) 0)
 
 -- of the record with a number
 unfoldable pub title_part_of : Edition → List ℕ → ℕ → TitlePart
@@ -167,12 +168,12 @@ single b t = record { bytes = b; title = t } ∷ []
 -- the bytes with one record more, for a second buffer of `room` bytes
 unfoldable pub add_to : Edition → List ℕ → List ℕ → ℕ → List Filed → Or (List ℕ)
 add_to e b t room fs =
-    need 6 (eqb (length b) e.size)
-    (need 4 (title_fits t)
-    (need 5 (ltb (last_number 0 fs) (word4 b layout.number_at))
-    (need 17 (leb (length (encode e (fs ++ single b t))) room)
-    (need 18 (ltb (length fs) record_limit)
-    (ok (encode e (fs ++ single b t)))))))
+    need Record (eqb (length b) e.size)
+    (need Title (title_fits t)
+    (need Order (ltb (last_number 0 fs) (word4 b layout.number_at))
+    (need BufferRoom (leb (length (encode e (fs ++ single b t))) room)
+    (need Full (ltb (length fs) record_limit)
+    (Ok (encode e (fs ++ single b t)))))))
 
 unfoldable pub add_of : Edition → List ℕ → List ℕ → List ℕ → ℕ → Or (List ℕ)
 add_of e l b t room = and_then (decode e l) (λ fs. add_to e b t room fs)
@@ -180,17 +181,17 @@ add_of e l b t room = and_then (decode e l) (λ fs. add_to e b t room fs)
 -- ---- the paper's number and value of each answer, and the second buffer afterwards
 
 abbrev pub answer_of : Or ℕ → Answer
-answer_of (refused n) = Refused n
-answer_of (ok n) = Value n
+answer_of (Err n) = Refused n
+answer_of (Ok n) = Value n
 
 -- adding answers the length of what it wrote
 abbrev pub new_length : Or (List ℕ) → Answer
-new_length x = answer_of (and_then x (λ new. ok (length new)))
+new_length x = answer_of (and_then x (λ new. Ok (length new)))
 
 -- a refusal writes nothing; bytes beyond the new archive stay
 abbrev pub overwrite : Or (List ℕ) → List ℕ → List ℕ
-overwrite (refused n) out = out
-overwrite (ok new) out = new ++ drop (length new) out
+overwrite (Err n) out = out
+overwrite (Ok new) out = new ++ drop (length new) out
 
 -- a call that writes bytes to a lent buffer, or refuses: its answer, and the buffer afterwards
 pub record Writes (x : Or (List ℕ)) (before : List ℕ) (r : Answer) (after : List ℕ) : Type 0 where

@@ -1,6 +1,6 @@
 -- The paper's two figures of archives, as values that compute: the empty archive, and one untitled record added to it.
-use Rattle.std.specs.Prelude.{ℕ, List, [], ◌∷◌, length, drop, replicate}
-use Rattle.refusal.specs.Refusal.{Or, refused, ok}
+use Rattle.std.specs.Prelude.{ℕ, List, [], ◌∷◌, length, drop, replicate, Ok, Err}
+use Rattle.refusal.specs.Refusal.{Or}
 use Rattle.archive_format.specs.Archive.{encode, add_of, first_edition}
 
 unfoldable pub empty_archive : List ℕ
@@ -14,8 +14,8 @@ unfoldable pub one_record : Or (List ℕ)
 one_record = add_of first_edition empty_archive first_record [] 77
 
 abbrev pub answered : Or (List ℕ) → List ℕ
-answered (refused n) = []
-answered (ok new) = new
+answered (Err n) = []
+answered (Ok new) = new
 
 abbrev pub one_length : ℕ
 one_length = length (answered one_record)

@@ -1,7 +1,8 @@
 -- What finding means: the place found holds the record with the number, and its title is that record's.
-use Rattle.std.specs.Prelude.{ℕ, zero, suc, ◌+◌, ◌*◌, ◌≤◌, ◌<◌, ◌≡◌, refl, Bool, true, false, cond, List, [], ◌∷◌, ◌++◌, eqb, ltb, length}
+use Rattle.std.specs.Prelude.{ℕ, zero, suc, ◌+◌, ◌*◌, ◌≤◌, ◌<◌, ◌≡◌, refl, Bool, true, false, cond, List, [], ◌∷◌, ◌++◌, eqb, ltb, length, Ok, Err}
 use Rattle.std.proofs.Common.{arith, ap, ◌∙◌, ltb-true}
-use Rattle.refusal.specs.Refusal.{Or, refused, ok, both, false_true}
+use Rattle.refusal.specs.declared.Refusal.TheVariants.{Record}
+use Rattle.refusal.specs.Refusal.{Or, both, false_true}
 use Rattle.octets.specs.Octets.{word2}
 use Rattle.archive_format.specs.Archive.{Filed, record_number, rising, last_number, next_at}
 use Rattle.archive_format.specs.Archive.{filed_at, filed_from, runs, place_after}
@@ -10,37 +11,37 @@ use Rattle.archive_format.specs.Reading.{title_length, Ran, ran}
 
 -- the record with a number, in a list
 unfoldable pub lookup : List Filed → ℕ → Or Filed
-lookup [] n = refused 6
-lookup (f ∷ fs) n = cond (eqb (record_number f) n) (ok f) (lookup fs n)
+lookup [] n = Err Record
+lookup (f ∷ fs) n = cond (eqb (record_number f) n) (Ok f) (lookup fs n)
 
 -- ---- a search in records that run: both absent, or the place holds the record
 
 pub data Search (size : ℕ) (l : List ℕ) (t : ℕ) (x : Or ℕ) (y : Or Filed) : Type 0 where
-  absent : x ≡ refused 6 → y ≡ refused 6 → Search size l t x y
-  present : (p : ℕ) → x ≡ ok p → y ≡ ok (filed_at size l p) → next_at size l p ≤ t → Search size l t x y
+  absent : x ≡ Err Record → y ≡ Err Record → Search size l t x y
+  present : (p : ℕ) → x ≡ Ok p → y ≡ Ok (filed_at size l p) → next_at size l p ≤ t → Search size l t x y
 
 -- ---- a list with more records after it
 
-pub lookup_more : (fs gs : List Filed) (n : ℕ) (g : Filed) → lookup fs n ≡ ok g → lookup (fs ++ gs) n ≡ ok g
+pub lookup_more : (fs gs : List Filed) (n : ℕ) (g : Filed) → lookup fs n ≡ Ok g → lookup (fs ++ gs) n ≡ Ok g
 unfolding lookup
 lookup_more [] gs n g h = false_true (cc)
 lookup_more (f ∷ fs) gs n g h = go (eqb (record_number f) n) h (lookup_more fs gs n g)
   where
-    go : (b : Bool) → cond b (ok f) (lookup fs n) ≡ ok g → (lookup fs n ≡ ok g → lookup (fs ++ gs) n ≡ ok g) → cond b (ok f) (lookup (fs ++ gs) n) ≡ ok g
+    go : (b : Bool) → cond b (Ok f) (lookup fs n) ≡ Ok g → (lookup fs n ≡ Ok g → lookup (fs ++ gs) n ≡ Ok g) → cond b (Ok f) (lookup (fs ++ gs) n) ≡ Ok g
     go true h ih = h
     go false h ih = ih h
 
-pub lookup_after : (fs gs : List Filed) (n m : ℕ) → lookup fs n ≡ refused m → lookup (fs ++ gs) n ≡ lookup gs n
+pub lookup_after : (fs gs : List Filed) (n m : ℕ) → lookup fs n ≡ Err m → lookup (fs ++ gs) n ≡ lookup gs n
 unfolding lookup
 lookup_after [] gs n m h = refl
 lookup_after (f ∷ fs) gs n m h = go (eqb (record_number f) n) h (lookup_after fs gs n m)
   where
-    go : (b : Bool) → cond b (ok f) (lookup fs n) ≡ refused m → (lookup fs n ≡ refused m → lookup (fs ++ gs) n ≡ lookup gs n)
-        → cond b (ok f) (lookup (fs ++ gs) n) ≡ lookup gs n
+    go : (b : Bool) → cond b (Ok f) (lookup fs n) ≡ Err m → (lookup fs n ≡ Err m → lookup (fs ++ gs) n ≡ lookup gs n)
+        → cond b (Ok f) (lookup (fs ++ gs) n) ≡ lookup gs n
     go true h ih = false_true (cc)
     go false h ih = ih h
 
-pub place_more : (size at : ℕ) (fs gs : List Filed) (i p : ℕ) → place_in size at fs i ≡ ok p → place_in size at (fs ++ gs) i ≡ ok p
+pub place_more : (size at : ℕ) (fs gs : List Filed) (i p : ℕ) → place_in size at fs i ≡ Ok p → place_in size at (fs ++ gs) i ≡ Ok p
 unfolding place_in
 place_more size at [] gs i p h = false_true (cc)
 place_more size at (f ∷ fs) gs zero p h = h
@@ -59,7 +60,7 @@ last_above p (f ∷ fs) r =
 
 -- the places of the trailer are the records'
 pub place_at : (size k : ℕ) (l : List ℕ) (t at q i : ℕ) → t ≤ length l → runs size k l t at q ≡ true → i < k
-    → place_in size at (filed_from size k l at) i ≡ ok (word2 l (q + 2 * i))
+    → place_in size at (filed_from size k l at) i ≡ Ok (word2 l (q + 2 * i))
 unfolding place_in filed_from
 place_at size zero l t at q i h r s = absurd (omega arith)
 place_at size (suc k) l t at q zero h r s =
@@ -72,9 +73,9 @@ place_at size (suc k) l t at q (suc i) h r s =
     let z : q + 2 + 2 * i ≡ q + 2 * suc i = omega arith in
     ap (λ (y : ℕ). place_in size (at + size + 1 + y) (filed_from size k l (next_at size l at)) i) (title_length size l at n)
     ∙ place_at size k l t (next_at size l at) (q + 2) i h m.on (omega arith)
-    ∙ ap (λ (y : ℕ). ok (word2 l y)) z
+    ∙ ap (λ (y : ℕ). Ok (word2 l y)) z
 
-pub place_beyond : (size p : ℕ) (fs : List Filed) (i : ℕ) → length fs ≤ i → place_in size p fs i ≡ refused 6
+pub place_beyond : (size p : ℕ) (fs : List Filed) (i : ℕ) → length fs ≤ i → place_in size p fs i ≡ Err Record
 unfolding place_in
 place_beyond size p [] i h = refl
 place_beyond size p (f ∷ fs) zero h = absurd (omega arith)

@@ -1,7 +1,7 @@
 -- What an archive that reads is known to hold: one record at a place, records that run to the trailer, and every test passed.
-use Rattle.std.specs.Prelude.{ℕ, zero, suc, ◌+◌, ◌*◌, ◌-◌, ◌≤◌, ◌≡◌, refl, true, List, ◌∷◌, ◌++◌, leb, eqb, length, take, drop, get_or}
+use Rattle.std.specs.Prelude.{ℕ, zero, suc, ◌+◌, ◌*◌, ◌-◌, ◌≤◌, ◌≡◌, refl, true, List, ◌∷◌, ◌++◌, leb, eqb, length, take, drop, get_or, Ok}
 use Rattle.std.proofs.Common.{add-zero, add-one, arith, sym, ap, ◌∙◌, length-take, length-drop, length-append, take-append-drop, drop-cons, drop-drop, get_or-take, get_or-drop, leb-true, eqb-true}
-use Rattle.refusal.specs.Refusal.{ok, need_passed, need_rest, both}
+use Rattle.refusal.specs.Refusal.{need_passed, need_rest, both}
 use Rattle.octets.specs.Octets.{word2, word4}
 use Rattle.archive_format.specs.declared.Edition.{Edition}
 use Rattle.archive_format.specs.Archive.{record_limit, title_limit, Filed, record_number, body, titled, rising, next_at, filed_at, filed_from, runs}
@@ -82,7 +82,7 @@ pub record Reads (e : Edition) (l : List ℕ) (fs : List Filed) : Type 0 where
   pub count : count_at l ≡ length fs
   pub trailer : trailer_at l ≡ length (body fs)
 
-pub reads : (e : Edition) (l : List ℕ) (fs : List Filed) → decode e l ≡ ok fs → Reads e l fs
+pub reads : (e : Edition) (l : List ℕ) (fs : List Filed) → decode e l ≡ Ok fs → Reads e l fs
 unfolding decode decode_body
 reads e l fs r =
     let r2 : _ = need_rest _ _ _ _ r in

@@ -1,9 +1,8 @@
 -- What the reading calls answer of an archive, record by record: place, finding and title of each, and of no other.
 -- So the records come back by asking for each place, and reading gives the list that the archive holds.
-use Rattle.std.specs.Prelude.{ℕ, zero, suc, ◌+◌, ◌≤◌, ◌≡◌, take}
+use Rattle.std.specs.Prelude.{ℕ, zero, suc, ◌+◌, ◌≤◌, ◌≡◌, take, Ok, Err}
 use mathlib.Core.List.{List, [], ◌∷◌, ◌++◌}
 use Rattle.std.proofs.Math.ListN.{length, drop}
-use Rattle.refusal.specs.Refusal.{refused, ok}
 use Rattle.octets.specs.Octets.{word4}
 use Rattle.segment.specs.Layout as layout
 use Rattle.archive_format.specs.declared.Edition.{Edition}
@@ -13,6 +12,7 @@ use Rattle.archive_format.specs.declared.TitlePart.TheVariants.{Part}
 use Rattle.archive_format.specs.Archive.{Filed, record_number, decode}
 use Rattle.archive_format.specs.Archive.{count_of, place_of, find_of, title_part_of, title_of, answer_of}
 use Rattle.archive_format.specs.Finding.{lookup}
+use Rattle.refusal.specs.declared.Refusal.TheVariants.{Record}
 
 -- ---- an archive that reads as a list
 
@@ -26,12 +26,12 @@ pub record Stands (e : Edition) (l : List ℕ) (i : ℕ) (f : Filed) : Type 0 wh
   pub title : title_of e l (record_number f) ≡ f.title
 
 pub record ReadsAs (e : Edition) (l : List ℕ) (fs : List Filed) : Type 0 where
-  pub is : decode e l ≡ ok fs
+  pub is : decode e l ≡ Ok fs
   pub count : answer_of (count_of e l) ≡ Value (length fs)
   pub each : (gs : List Filed) (f : Filed) (hs : List Filed) → fs ≡ gs ++ (f ∷ hs) → Stands e l (length gs) f
   -- no other index and no other number
   pub beyond : (i : ℕ) → length fs ≤ i → answer_of (place_of e l i) ≡ Refused 6
-  pub absent : (n : ℕ) → lookup fs n ≡ refused 6 → answer_of (find_of e l n) ≡ Refused 6
+  pub absent : (n : ℕ) → lookup fs n ≡ Err Record → answer_of (find_of e l n) ≡ Refused 6
 
 -- ---- the records by the calls
 

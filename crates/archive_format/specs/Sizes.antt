@@ -1,7 +1,6 @@
 -- How long an archive gets, and that two bytes hold its count and its places.
-use Rattle.std.specs.Prelude.{ℕ, zero, suc, ◌+◌, ◌*◌, ◌≤◌, ◌≡◌, List, [], ◌∷◌, ◌++◌, length, replicate}
+use Rattle.std.specs.Prelude.{ℕ, zero, suc, ◌+◌, ◌*◌, ◌≤◌, ◌≡◌, List, [], ◌∷◌, ◌++◌, length, replicate, Ok}
 use Rattle.std.proofs.Common.{arith, length-append}
-use Rattle.refusal.specs.Refusal.{ok}
 use Rattle.octets.specs.Octets.{bytes2}
 use Rattle.segment.specs.Layout as layout
 use Rattle.archive_format.specs.declared.Edition.{Edition}
@@ -23,7 +22,7 @@ pub record Small (l : List ℕ) (fs : List Filed) : Type 0 where
   pub whole : length l ≤ 56838
   pub count : length fs ≤ record_limit
   pub trailer : length (body fs) ≤ 55808
-  pub place : (i p : ℕ) → place_of first_edition l i ≡ ok p → p ≤ 55808
+  pub place : (i p : ℕ) → place_of first_edition l i ≡ Ok p → p ≤ 55808
 
 -- ---- the bound is met: 512 records with titles of 40 spaces
 

@@ -1,7 +1,7 @@
 -- What a call that writes to a lent buffer says where it accepts.
-use Rattle.std.specs.Prelude.{ℕ, ◌≤◌, ◌≡◌, List, length}
+use Rattle.std.specs.Prelude.{ℕ, ◌≤◌, ◌≡◌, List, length, Ok, Err}
 use Rattle.std.proofs.Common.{arith, length-append}
-use Rattle.refusal.specs.Refusal.{Or, refused, ok, false_true}
+use Rattle.refusal.specs.Refusal.{Or, false_true}
 use Rattle.archive_format.specs.declared.Answer.{Answer}
 use Rattle.archive_format.specs.declared.Answer.TheVariants.{Value}
 use Rattle.archive_format.specs.Archive.{new_length, overwrite, Writes}
@@ -11,5 +11,5 @@ pub writes_within : {x : Or (List ℕ)} {before : List ℕ} {r : Answer} {after 
 writes_within {x} {before} {r} {after} {n} w e = go x w.answer w.buffer
   where
     go : (y : Or (List ℕ)) → r ≡ new_length y → after ≡ overwrite y before → n ≤ length after
-    go (refused m) a b = false_true (cc)
-    go (ok new) a b = let same : length new ≡ n = cc in rw (b, length-append) (omega arith)
+    go (Err m) a b = false_true (cc)
+    go (Ok new) a b = let same : length new ≡ n = cc in rw (b, length-append) (omega arith)

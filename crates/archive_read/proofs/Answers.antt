@@ -1,7 +1,7 @@
 -- The calls' answers, by what opening answered.
-use Rattle.std.specs.Prelude.{ℕ, ◌+◌, ◌*◌, ◌-◌, ◌≤◌, ◌<◌, ◌≡◌, List, [], length, take, drop, get_or}
+use Rattle.std.specs.Prelude.{ℕ, ◌+◌, ◌*◌, ◌-◌, ◌≤◌, ◌<◌, ◌≡◌, List, [], length, take, drop, get_or, Ok, Err}
 use Rattle.std.proofs.Common.{arith, sym, ◌∙◌}
-use Rattle.refusal.specs.Refusal.{Or, refused, ok, false_true}
+use Rattle.refusal.specs.Refusal.{Or, false_true}
 use Rattle.octets.specs.Octets.{word2}
 use Rattle.archive_format.specs.declared.Edition.{Edition}
 use Rattle.archive_format.specs.declared.Answer.{Answer}
@@ -46,13 +46,13 @@ module _ (e : Edition) (l : List ℕ) where
 
 -- ---- a title's part, by what finding answered
 
-answer_ok : (x : Or ℕ) (p : ℕ) → answer_of x ≡ Value p → x ≡ ok p
-answer_ok (refused n) p a = false_true (cc)
-answer_ok (ok m) p a = let z : m ≡ p = cc in rw z
+answer_ok : (x : Or ℕ) (p : ℕ) → answer_of x ≡ Value p → x ≡ Ok p
+answer_ok (Err n) p a = false_true (cc)
+answer_ok (Ok m) p a = let z : m ≡ p = cc in rw z
 
-answer_refused : (x : Or ℕ) (p : ℕ) → answer_of x ≡ Refused p → x ≡ refused p
-answer_refused (refused n) p a = let z : n ≡ p = cc in rw z
-answer_refused (ok m) p a = false_true (cc)
+answer_refused : (x : Or ℕ) (p : ℕ) → answer_of x ≡ Refused p → x ≡ Err p
+answer_refused (Err n) p a = let z : n ≡ p = cc in rw z
+answer_refused (Ok m) p a = false_true (cc)
 
 module _ (e : Edition) (l : List ℕ) (n p : ℕ) where
   pub found_within : answer_of (find_of e l n) ≡ Value p → next_at e.size l p ≤ length l

@@ -1,6 +1,7 @@
 -- The decision on volumes and seeds: refusals 13, 14, 15 in order, or the pair flows.
-use Rattle.std.specs.Prelude.{ℕ, ◌||◌, not}
-use Rattle.refusal.specs.Refusal.{Or, refused, ok, need}
+use Rattle.std.specs.Prelude.{ℕ, ◌||◌, not, Ok, Err}
+use Rattle.refusal.specs.declared.Refusal.TheVariants.{NoVolume, Unserved}
+use Rattle.refusal.specs.Refusal.{Or, need}
 use Rattle.movements.specs.PerMovement.{Counts, Seeds}
 use Rattle.balance_flows.specs.declared.FlowTable.{FlowTable}
 use Rattle.balance_flows.specs.Flows.{zero64}
@@ -28,12 +29,12 @@ unfoldable pub settled_to : Counts → Balance → Decision
 settled_to o b = by_settling b.settling b.rounds b.cells o
 
 abbrev pub decided : Counts → Or Balance → Decision
-decided o (refused number) = undecided (outcome_of number zero64)
-decided o (ok b) = settled_to o b
+decided o (Err number) = undecided (outcome_of number zero64)
+decided o (Ok b) = settled_to o b
 
 unfoldable pub decision_of : Counts → Counts → Seeds → Decision
 decision_of o exits seeds =
     decided o
-    (need 13 (not (no_volume o exits))
-    (need 14 (not (any_unserved_entry o exits seeds || any_unserved_exit o exits seeds))
-    (ok (balanced o exits seeds))))
+    (need NoVolume (not (no_volume o exits))
+    (need Unserved (not (any_unserved_entry o exits seeds || any_unserved_exit o exits seeds))
+    (Ok (balanced o exits seeds))))

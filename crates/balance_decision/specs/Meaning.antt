@@ -1,9 +1,10 @@
 -- What a decision means: one with the number 0 is worked, and its pair flows use up each entry's discharge; none has more rounds than the limit.
 -- Assumes nothing.
-use Rattle.std.specs.Prelude.{ℕ, ◌≤◌, Bool, not, ◌||◌, [], ◌∷◌, map, ◌≡◌, refl, Float}
+use Rattle.std.specs.Prelude.{ℕ, ◌≤◌, Bool, not, ◌||◌, [], ◌∷◌, map, ◌≡◌, refl, Float, Ok}
 use Rattle.std.proofs.Math.Bool.{true, false}
 use native.Mathlib.Omega.{arith}
-use Rattle.refusal.specs.Refusal.{ok, need}
+use Rattle.refusal.specs.declared.Refusal.TheVariants.{NoVolume, Unserved}
+use Rattle.refusal.specs.Refusal.{need}
 use Rattle.movements.specs.PerMovement.{Counts, Seeds}
 use Rattle.movements.specs.Movements.{flow_units}
 use Rattle.balance_flows.specs.declared.FlowTable.{FlowTable}
@@ -32,7 +33,7 @@ module _ (o : Counts) where
   by_settling_lem (settling.Settled x) n c e = record { sum = x; worked = refl; cells = c; rows = refl }
   by_settling_lem (settling.Unsettled x) n c e = absurd (omega arith)
 
-  by_tests : (t u : Bool) (b : Balance) → let d = decided o (need 13 t (need 14 u (ok b))) in refusal_of d.outcome ≡ 0 → FromCells d
+  by_tests : (t u : Bool) (b : Balance) → let d = decided o (need NoVolume t (need Unserved u (Ok b))) in refusal_of d.outcome ≡ 0 → FromCells d
   unfolding need settled_to
   by_tests false u b e = absurd (omega arith)
   by_tests true false b e = absurd (omega arith)
@@ -52,7 +53,7 @@ module _ (o : Counts) where
   number_by_settling (settling.Settled x) n c = omega arith
   number_by_settling (settling.Unsettled x) n c = omega arith
 
-  number_by_tests : (t u : Bool) (b : Balance) → refusal_of (decided o (need 13 t (need 14 u (ok b)))).outcome ≤ 15
+  number_by_tests : (t u : Bool) (b : Balance) → refusal_of (decided o (need NoVolume t (need Unserved u (Ok b)))).outcome ≤ 15
   unfolding need settled_to
   number_by_tests false u b = omega arith
   number_by_tests true false b = omega arith
@@ -69,7 +70,7 @@ module _ (o : Counts) where
   settling_rounds (settling.Settled x) c h = h
   settling_rounds (settling.Unsettled x) c h = omega arith
 
-  tests_rounds : (t u : Bool) (b : Balance) → b.rounds ≤ round_limit → (decided o (need 13 t (need 14 u (ok b)))).rounds ≤ round_limit
+  tests_rounds : (t u : Bool) (b : Balance) → b.rounds ≤ round_limit → (decided o (need NoVolume t (need Unserved u (Ok b)))).rounds ≤ round_limit
   unfolding need settled_to
   tests_rounds false u b h = omega arith
   tests_rounds true false b h = omega arith

@@ -1,7 +1,7 @@
 -- Laws that stood in specs/Laws.antt: of every accepted record each entry's run in the profile is its discharge, at the volume answered; no refusal has the number 0.
-use Rattle.std.specs.Prelude.{ℕ, ◌<◌, ◌≡◌, refl, List, ltb, length}
+use Rattle.std.specs.Prelude.{ℕ, ◌<◌, ◌≡◌, refl, List, ltb, length, Ok, Err}
 use Rattle.std.proofs.Common.{ap, ◌∙◌, ltb-true}
-use Rattle.refusal.specs.Refusal.{Or, refused, ok, false_true}
+use Rattle.refusal.specs.Refusal.{Or, false_true}
 use Rattle.segment.specs.declared.Segment.{Segment}
 use Rattle.segment.specs.Segment.{segment_of}
 use Rattle.ranges.specs.Ranges.{Ranges}
@@ -31,8 +31,8 @@ entries_discharge : (l p : List ℕ) (r : Discharged) (p' : List ℕ) → r ≡ 
 entries_discharge l p r p' er ep left through right e = go (accept_of l (length p)) refl er ep
   where
     go : (x : Or Segment) → accept_of l (length p) ≡ x → r ≡ answer_of x → p' ≡ profile_after x p → EntriesDischarge (segment_of l) left through right p'
-    go (refused n) q er ep = false_true (cc)
-    go (ok s) q er ep =
+    go (Err n) q er ep = false_true (cc)
+    go (Ok s) q er ep =
         let a = (accept_passed l _ s q).0 in
         let el : left ≡ discharge_volume s.cycle s.left = cc in
         let et : through ≡ discharge_volume s.cycle s.through = cc in
@@ -48,7 +48,7 @@ pub refused_above : (l : List ℕ) (room n : ℕ) → answer_of (accept_of l roo
 refused_above l room n = go (accept_of l room) refl
   where
     go : (x : Or Segment) → accept_of l room ≡ x → answer_of x ≡ Refused n → 0 < n
-    go (refused m) q e =
+    go (Err m) q e =
         let same : m ≡ n = cc in
-        ltb-true 0 n (accept_numbers l _ (λ k holds. ltb 0 k) refl (λ s. refl) n (q ∙ ap (λ (k : ℕ). refused k) same))
-    go (ok s) q e = false_true (cc)
+        ltb-true 0 n (accept_numbers l _ (λ k holds. ltb 0 k) refl (λ s. refl) n (q ∙ ap (λ (k : ℕ). Err k) same))
+    go (Ok s) q e = false_true (cc)

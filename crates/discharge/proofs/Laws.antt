@@ -1,10 +1,10 @@
 -- What the discharge call answers and writes, over plain variables.
+use Rattle.std.specs.Prelude.{Ok}
 use Prim.Native.Nat.{ℕ, ◌*◌, ◌≤◌}
 use mathlib.Core.Path.{◌≡◌, ◌∙◌}
 use mathlib.Core.List.{List}
 use lib.ListN.{length}
 use borrow.Author.Tests.{leb-true}
-use Rattle.refusal.specs.Refusal.{ok}
 use Rattle.segment.specs.declared.Segment.{Segment}
 use Rattle.validation.specs.declared.Checked.TheVariants.{Valid}
 use Rattle.validation.specs.Validation.{checked_of}
@@ -20,7 +20,7 @@ use Rattle.discharge.specs.Discharge.{accept_of, answer_of, Calls}
 use Rattle.discharge.proofs.Answered.{called}
 
 -- the three volumes
-pub all_answered : (s : Segment) {o : Counts} → o ≡ discharge_volumes s → d.Volumes o.left o.through o.right ≡ answer_of (ok s)
+pub all_answered : (s : Segment) {o : Counts} → o ≡ discharge_volumes s → d.Volumes o.left o.through o.right ≡ answer_of (Ok s)
 unfolding discharge_volumes
 all_answered s e = rw e
 
@@ -31,7 +31,7 @@ module _ (l p : List ℕ) where
       let a = accept_passed l _ s (checked_valid (accept_of l (length p)) s e) in
       (a.0.ranges, leb-true (3 * s.cycle) (length p) (a.1 16))
 
-  pub writes : (s : Segment) → checked_of (accept_of l (length p)) ≡ Valid s → (r : Discharged) (p' : List ℕ) → r ≡ answer_of (ok s) → p' ≡ entry_profiles s p →
+  pub writes : (s : Segment) → checked_of (accept_of l (length p)) ≡ Valid s → (r : Discharged) (p' : List ℕ) → r ≡ answer_of (Ok s) → p' ≡ entry_profiles s p →
       Calls l p r p'
   writes s e r p' er ep =
       let q = checked_valid (accept_of l (length p)) s e in

@@ -1,7 +1,8 @@
 -- The discharge call on a segment record: three profiles of C numbers each, entries in order, and the three discharge volumes.
-use Rattle.std.specs.Prelude.{ℕ, ◌*◌, ◌≡◌, List, [], ◌∷◌, leb, length}
+use Rattle.std.specs.Prelude.{ℕ, ◌*◌, ◌≡◌, List, [], ◌∷◌, leb, length, Ok, Err}
 use Rattle.runs.specs.Runs.{run_at}
-use Rattle.refusal.specs.Refusal.{Or, refused, ok, test}
+use Rattle.refusal.specs.declared.Refusal.TheVariants.{ProfileRoom}
+use Rattle.refusal.specs.Refusal.{Or, test}
 use Rattle.segment.specs.declared.Segment.{Segment}
 use Rattle.segment.specs.Segment.{segment_of}
 use Rattle.validation.specs.Accepting.{accept_with}
@@ -12,17 +13,17 @@ use Rattle.discharge.specs.declared.Discharged.TheVariants.{Refused, Volumes}
 
 -- the places record and lent profiles, and no other
 abbrev pub accept_of : List ℕ → ℕ → Or Segment
-accept_of l room = accept_with l (λ s. test 16 (leb (3 * s.cycle) room) ∷ [])
+accept_of l room = accept_with l (λ s. test ProfileRoom (leb (3 * s.cycle) room) ∷ [])
 
 -- the answer's cases: the paper's number, or the three discharge volumes
 abbrev pub answer_of : Or Segment → Discharged
-answer_of (refused n) = Refused n
-answer_of (ok s) = Volumes (discharge_volume s.cycle s.left) (discharge_volume s.cycle s.through) (discharge_volume s.cycle s.right)
+answer_of (Err n) = Refused n
+answer_of (Ok s) = Volumes (discharge_volume s.cycle s.left) (discharge_volume s.cycle s.through) (discharge_volume s.cycle s.right)
 
 -- the lent profile afterwards: three runs in order, or as it was where the call refuses
 abbrev pub profile_after : Or Segment → List ℕ → List ℕ
-profile_after (refused n) p = p
-profile_after (ok s) p = entry_profiles s p
+profile_after (Err n) p = p
+profile_after (Ok s) p = entry_profiles s p
 
 -- the three entries of a segment, read from the front of a profile, by their discharge volumes
 pub record EntriesDischarge (s : Segment) (o₁ o₂ o₃ : ℕ) (p : List ℕ) : Type 0 where

@@ -1,7 +1,7 @@
 -- What the answers in numbers mean: 0 is an accepted working, the part told of an archive is the title.
-use Rattle.std.specs.Prelude.{ℕ, Bool, true, false, cond, ◌≡◌, refl, List, leb, Float, length, take, drop}
+use Rattle.std.specs.Prelude.{ℕ, Bool, true, false, cond, ◌≡◌, refl, List, leb, Float, length, take, drop, Ok, Err}
 use Rattle.std.proofs.Common.{arith, sym, ap, ◌∙◌}
-use Rattle.refusal.specs.Refusal.{Or, refused, ok}
+use Rattle.refusal.specs.Refusal.{Or}
 use Rattle.balance_flows.specs.Flows.{zero64}
 use Rattle.octets.specs.Octets.{word4}
 use Rattle.segment.specs.declared.Segment.{Segment}
@@ -44,8 +44,8 @@ decided_worked s p e =
     record { sum = f.sum; is = o ∙ f.worked }
 
 record_worked : (x : Or Segment) (p : Profiles) → let o = (by_record x p).answer.outcome in refusal_of o ≡ 0 → WorkedAt o
-record_worked (refused n) p e = record { sum = zero64; is = zero_is_worked n zero64 e }
-record_worked (ok s) p e = decided_worked s p e
+record_worked (Err n) p e = record { sum = zero64; is = zero_is_worked n zero64 e }
+record_worked (Ok s) p e = decided_worked s p e
 
 pub call_worked : (l : List ℕ) (p : Profiles) → let o = (call_of l p).answer.outcome in refusal_of o ≡ 0 → WorkedAt o
 unfolding call_of
@@ -53,8 +53,8 @@ call_worked l p = record_worked (accept_of l (length p.output) (length p.first) 
 
 -- the working that a call with points answers is that of the record
 working_is : (x : Or Segment) (ps : Points) (p : Profiles) (q : List ℕ) → (pointed.by_record x ps p q).answer.working ≡ (by_record x p).answer
-working_is (refused n) ps p q = refl
-working_is (ok s) ps p q = refl
+working_is (Err n) ps p q = refl
+working_is (Ok s) ps p q = refl
 
 pub point_call_worked : (l : List ℕ) (ps : Points) (p : Profiles) (q : List ℕ) →
     let o = (point_call_of l ps p q).answer.working.outcome in refusal_of o ≡ 0 → WorkedAt o

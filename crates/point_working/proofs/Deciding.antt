@@ -1,6 +1,7 @@
 -- The ways of the call with points, from those of the working, over plain variables.
+use Rattle.std.specs.Prelude.{Ok}
 use Rattle.std.proofs.Common.{ℕ, ◌*◌, ◌≤◌, arith, ◌≡◌, refl, ap, sym, subst, ◌∙◌, List, leb, Float, length, leb-true}
-use Rattle.refusal.specs.Refusal.{Or, ok, false_true, both}
+use Rattle.refusal.specs.Refusal.{Or, false_true, both}
 use Rattle.segment.specs.declared.Segment.{Segment}
 use Rattle.ranges.specs.Ranges.{Ranges}
 use Rattle.validation.specs.declared.Checked.TheVariants as checked
@@ -53,7 +54,7 @@ module _ (l : List ℕ) (ps : Points) (p : Profiles) (q : List ℕ) where
   abbrev accepts : Or Segment
   accepts = accept_of l ps (length p.output) (length q) (length p.first) (length p.second)
 
-  passed : (s : Segment) → accepts ≡ ok s → Accepted l s × Accepts s ps p q
+  passed : (s : Segment) → accepts ≡ Ok s → Accepted l s × Accepts s ps p q
   passed s e =
       let a = accept_passed l _ s e in
       let t = both (fits (length p.output) (length p.first) (length p.second) s) (leb (s.cycle * ps.count) (length q)) (a.1 16) in

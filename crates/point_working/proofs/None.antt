@@ -1,8 +1,9 @@
 -- Laws of specs/None.antt: With no points the call is the call without: its answer, its three profiles, and the point profile as it was.
-use Rattle.std.specs.Prelude.{ℕ, ◌*◌, Bool, true, false, ◌&&◌, ◌≡◌, List, [], ◌∷◌, leb, length}
+use Rattle.std.specs.Prelude.{ℕ, ◌*◌, Bool, true, false, ◌&&◌, ◌≡◌, List, [], ◌∷◌, leb, length, Ok, Err}
 use Rattle.std.proofs.Common.{arith, ap, ◌∙◌, le-leb}
 use Rattle.std.proofs.Math.Path.{refl}
-use Rattle.refusal.specs.Refusal.{Or, refused, ok, need, and_then, test, first_failing}
+use Rattle.refusal.specs.declared.Refusal.TheVariants.{ProfileRoom}
+use Rattle.refusal.specs.Refusal.{Or, need, and_then, test, first_failing}
 use Rattle.segment.specs.declared.Segment.{Segment}
 use Rattle.validation.specs.Validation.{check_of}
 use Rattle.validation.specs.Accepting.{accept_with}
@@ -29,7 +30,7 @@ module _ (ps : Points) (none : ps.count ≡ 0) where
   room c n = let e : c * ps.count ≡ c * 0 = ap (λ (m : ℕ). c * m) none in le-leb (c * ps.count) n (omega arith)
 
   -- 19 and 20 hold, and 16 is that of the other three profiles
-  tests_none : (o q f g : ℕ) (s : Segment) → first_failing (point_tests ps o q f g s) s ≡ first_failing (test 16 (working.fits o f g s) ∷ []) s
+  tests_none : (o q f g : ℕ) (s : Segment) → first_failing (point_tests ps o q f g s) s ≡ first_failing (test ProfileRoom (working.fits o f g s) ∷ []) s
   unfolding need all_fit
   tests_none o q f g s = rw (none_given ps none, room s.cycle q, and_true, none)
 
@@ -38,9 +39,9 @@ module _ (ps : Points) (none : ps.count ≡ 0) where
   accepts_none l o q f g = go (check_of l)
     where
       go : (x : Or Segment) → and_then x (λ s. first_failing (point_tests ps o q f g s) s)
-          ≡ and_then x (λ s. first_failing (test 16 (working.fits o f g s) ∷ []) s)
-      go (refused n) = refl
-      go (ok s) = tests_none o q f g s
+          ≡ and_then x (λ s. first_failing (test ProfileRoom (working.fits o f g s) ∷ []) s)
+      go (Err n) = refl
+      go (Ok s) = tests_none o q f g s
 
   -- no run is written, and none is counted: so the call is the call without, whatever the outcome
   passing_none : (s : Segment) (o : Outcome) (q : List ℕ) → passing_after o s ps q ≡ q
@@ -57,8 +58,8 @@ module _ (ps : Points) (none : ps.count ≡ 0) where
   with_none s c q = rw (passing_none s c.answer.outcome q, counts_none s c.answer.outcome)
 
   record_none : (x : Or Segment) (p : Profiles) (q : List ℕ) → by_record x ps p q ≡ without (working.by_record x p) q
-  record_none (refused n) p q = refl
-  record_none (ok s) p q = with_none s (working.by_decision s (working.decision_for s) p) q
+  record_none (Err n) p q = refl
+  record_none (Ok s) p q = with_none s (working.by_decision s (working.decision_for s) p) q
 
   pub none_is : (l : List ℕ) (p : Profiles) (q : List ℕ) → point_call_of l ps p q ≡ without (working.call_of l p) q
   unfolding point_call_of working.call_of

@@ -1,6 +1,7 @@
 -- The working of a segment record with points along it: what it answers and leaves in four lent profiles, on every way.
-use Rattle.std.specs.Prelude.{ℕ, ◌*◌, ◌&&◌, ◌≡◌, List, [], ◌∷◌, leb, Float, length, replicate}
-use Rattle.refusal.specs.Refusal.{Or, refused, ok, Test, test}
+use Rattle.std.specs.Prelude.{ℕ, ◌*◌, ◌&&◌, ◌≡◌, List, [], ◌∷◌, leb, Float, length, replicate, Ok, Err}
+use Rattle.refusal.specs.declared.Refusal.TheVariants.{ProfileRoom, PointCount, PointRange}
+use Rattle.refusal.specs.Refusal.{Or, Test, test}
 use Rattle.segment.specs.declared.Segment.{Segment}
 use Rattle.segment.specs.Segment.{segment_of}
 use Rattle.validation.specs.Accepting.{accept_with}
@@ -22,9 +23,9 @@ use Rattle.point_working.specs.declared.PointWorking.{PointWorking}
 -- after the record's tests: more than eight points, a point that does not fit, a profile too short (a run for each point too)
 abbrev pub point_tests : Points → (output passing first second : ℕ) → Segment → List Test
 point_tests ps output passing first second s =
-    test 19 (leb ps.count most_points)
-    ∷ test 20 (all_fit s.running (given ps))
-    ∷ test 16 (fits output first second s && leb (s.cycle * ps.count) passing)
+    test PointCount (leb ps.count most_points)
+    ∷ test PointRange (all_fit s.running (given ps))
+    ∷ test ProfileRoom (fits output first second s && leb (s.cycle * ps.count) passing)
     ∷ []
 
 abbrev pub accept_of : List ℕ → Points → (output passing first second : ℕ) → Or Segment
@@ -65,8 +66,8 @@ with_points s ps c q =
     point_called (answered c.answer (counts_after o s ps)) c.after (passing_after o s ps q)
 
 abbrev pub by_record : Or Segment → Points → Profiles → List ℕ → PointCalled
-by_record (refused n) ps p q = point_called (answered (refused_with (outcome_of n zero64)) none_blocked) p q
-by_record (ok s) ps p q = with_points s ps (by_decision s (decision_for s) p) q
+by_record (Err n) ps p q = point_called (answered (refused_with (outcome_of n zero64)) none_blocked) p q
+by_record (Ok s) ps p q = with_points s ps (by_decision s (decision_for s) p) q
 
 unfoldable pub point_call_of : List ℕ → Points → Profiles → List ℕ → PointCalled
 point_call_of l ps p q = by_record (accept_of l ps (length p.output) (length q) (length p.first) (length p.second)) ps p q

@@ -1,8 +1,8 @@
 -- Laws of specs/Whole.antt: How long the text gets, and the room that holds all of it.
-use Rattle.std.specs.Prelude.{ℕ, zero, suc, ◌+◌, ◌*◌, ◌≤◌, ◌<◌, Bool, true, false, cond, ◌≡◌, refl, List, ltb, length, take, drop}
+use Rattle.std.specs.Prelude.{ℕ, zero, suc, ◌+◌, ◌*◌, ◌≤◌, ◌<◌, Bool, true, false, cond, ◌≡◌, refl, List, ltb, length, take, drop, Ok, Err}
 use Rattle.std.proofs.Common.{arith, length-append, take_at, get_or-drop, le-leb}
 use Rattle.std.proofs.lemmas.Bool.{lt-leb}
-use Rattle.refusal.specs.Refusal.{Or, refused, ok, need}
+use Rattle.refusal.specs.Refusal.{Or, need}
 use Rattle.octets.specs.Octets.{word4}
 use Rattle.buffer.specs.Buffer.{Wrote}
 use Rattle.buffer.proofs.Pieces.{wrote_fits}
@@ -61,8 +61,8 @@ unfolding archive_text
 archive_text_lem form l h = go (decode first_edition l) refl
   where
     go : (x : Or (List Filed)) → decode first_edition l ≡ x → length (read_text form x) ≤ text_room form
-    go (refused k) e = line_room_lem form k
-    go (ok fs) e =
+    go (Err k) e = line_room_lem form k
+    go (Ok fs) e =
         let m = reads first_edition l fs e in
         rw (← m.held) (omega (arith, records_text_lem form l h first_edition.size (count_at l) 0, most_room form (count_at l) m.many))
 

@@ -1,7 +1,7 @@
 -- Laws of specs/Accepted.antt: A record that passed the tests.
-use Rattle.std.specs.Prelude.{ℕ, ◌≡◌, List, length}
+use Rattle.std.specs.Prelude.{ℕ, ◌≡◌, List, length, Ok}
 use Rattle.std.proofs.Common.{sym, eqb-true}
-use Rattle.refusal.specs.Refusal.{ok, all_hold, all_answer}
+use Rattle.refusal.specs.Refusal.{all_hold, all_answer}
 use Rattle.segment.specs.declared.Segment.{Segment}
 use Rattle.segment.specs.Layout.{size}
 use Rattle.segment.specs.Segment.{segment_of}
@@ -9,7 +9,7 @@ use Rattle.ranges.proofs.Ranges.{tests_ranges}
 use Rattle.validation.specs.Validation.{record_tests, check_of}
 use Rattle.validation.specs.Accepted.{Accepted}
 
-pub accepted : (l : List ℕ) (s : Segment) → check_of l ≡ ok s → Accepted l s
+pub accepted : (l : List ℕ) (s : Segment) → check_of l ≡ Ok s → Accepted l s
 unfolding check_of
 accepted l s e =
     let is = all_answer (record_tests l (segment_of l)) (segment_of l) s e in

@@ -1,14 +1,13 @@
 -- Laws of specs/Exhibit.antt: Sixteen zero seeds are never refused with 12: Exhibit 30-2 stands in for them, and each of its rows adds to 100.
-use Rattle.std.specs.Prelude.{ℕ, ◌+◌, ◌<◌, true, not, ◌||◌, ◌≡◌, List, eqb, get_or}
-use Rattle.std.proofs.Common.{arith}
-use Rattle.refusal.specs.Refusal.{false_true, refused_number}
+use Rattle.std.specs.Prelude.{ℕ, ◌+◌, ◌<◌, true, not, ◌||◌, ◌≡◌, List, eqb, get_or, Err}
+use Rattle.std.proofs.Common.{arith, sym, ◌∙◌}
+use Rattle.refusal.specs.declared.Refusal.TheVariants.{SeedRow}
+use Rattle.refusal.specs.Refusal.{Or, false_true, refused_number}
+use Rattle.segment.specs.declared.Segment.{Segment}
 use Rattle.segment.specs.Layout.{seeds_at, row_of, table_of}
 use Rattle.segment.specs.Segment.{zero_row, zero_seeds, seeds_of, segment_of}
 use Rattle.ranges.specs.Tests.{seeds_add, exhibit_adds}
-use Rattle.validation.specs.declared.Checked.{Checked}
-use Rattle.validation.specs.declared.Checked.TheVariants.{Refused}
-use Rattle.validation.specs.Validation.{record_tests, check_of, checked_of}
-use Rattle.validation.specs.Accepting.{checked_refused}
+use Rattle.validation.specs.Validation.{record_tests, check_of}
 use Rattle.validation.specs.Exhibit.{ZeroSeeds}
 
 row_zero : (l : List ℕ) (at : ℕ) → ((i : ℕ) → i < 4 → get_or l (at + i) 0 ≡ 0) → zero_row (row_of l at) ≡ true
@@ -35,8 +34,7 @@ unfolding segment_of seeds_of
 seeds_add_lem l z = rw (table_zero l z) exhibit_adds
 
 -- whatever the other fields, the check refuses by another number or not at all: each test has another number, or holds
-pub exhibit_stands : (l : List ℕ) → ZeroSeeds l → (r : Checked) → r ≡ checked_of (check_of l) → r ≡ Refused 12 → ⊥
+pub exhibit_stands : (l : List ℕ) → ZeroSeeds l → (r : Or Segment) → r ≡ check_of l → r ≡ Err SeedRow → ⊥
 unfolding check_of
 exhibit_stands l z r e q =
-    false_true (refused_number (λ n holds. not (eqb n 12) || holds) (record_tests l (segment_of l)) (segment_of l) 12 (rw (seeds_add_lem l z))
-    (checked_refused (check_of l) 12 (cc)))
+    false_true (refused_number (λ n holds. not (eqb n 12) || holds) (record_tests l (segment_of l)) (segment_of l) SeedRow (rw (seeds_add_lem l z)) (sym e ∙ q))

@@ -2,42 +2,23 @@
 #![tactic(auto)]
 
 ghost use Rattle.std.specs.Prelude.{◌≡◌};
-ghost use Rattle.validation.specs.Validation.{check_of, checked_of};
+ghost use Rattle.validation.specs.Validation.{check_of};
 
+use refusal::{Refusal, need};
 use segment::Segment;
 
-// A record's answer: the paper's number, or the segment.
-#[derive(Clone, Copy)]
-pub enum Checked {
-    Refused(u32),
-    Valid(Segment),
-}
-
 // The segment of a record, or the lowest of the refusals 6 to 12 that its bytes meet.
-pub fn check(bytes: &[u8]) -> Checked
-    ensures { result ≡ checked_of (check_of bytes.now) }
+#[tactic(auto, unfolding(crate::specs::Validation::check_of, refusal::specs::Refusal::need))]
+pub fn check(bytes: &[u8]) -> Result<Segment, Refusal>
+    ensures { result ≡ check_of bytes.now }
 {
-    if bytes.len() != segment::SIZE {
-        return Checked::Refused(6);
-    }
+    need(Refusal::Record, bytes.len() == segment::SIZE)?;
     let s = segment::segment_of(bytes);
-    if !ranges::cycle_fits(s) {
-        return Checked::Refused(7);
-    }
-    if !ranges::running_fits(s) {
-        return Checked::Refused(8);
-    }
-    if !ranges::headway_fits(s) {
-        return Checked::Refused(9);
-    }
-    if !ranges::volumes_fit(s) {
-        return Checked::Refused(10);
-    }
-    if !ranges::greens_fit(s) {
-        return Checked::Refused(11);
-    }
-    if !ranges::seeds_add(s.seeds) {
-        return Checked::Refused(12);
-    }
-    Checked::Valid(s)
+    need(Refusal::Cycle, ranges::cycle_fits(s))?;
+    need(Refusal::RunningTime, ranges::running_fits(s))?;
+    need(Refusal::Headway, ranges::headway_fits(s))?;
+    need(Refusal::Volume, ranges::volumes_fit(s))?;
+    need(Refusal::GreenTime, ranges::greens_fit(s))?;
+    need(Refusal::SeedRow, ranges::seeds_add(s.seeds))?;
+    Ok(s)
 }

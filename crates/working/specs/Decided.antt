@@ -1,9 +1,9 @@
 -- What stands on the working of an accepted record: the room that its test leaves, what its filling asks, pair flows that fit their entries,
 -- demand 3 of what was worked, and that a refusal of a record or a call is told by its number.
-use Rattle.std.specs.Prelude.{ℕ, zero, suc, ◌*◌, ◌≤◌, ◌<◌, Bool, true, not, ◌&&◌, ◌≡◌, refl, List, [], ◌∷◌, leb, eqb, Float, length, get_or}
+use Rattle.std.specs.Prelude.{ℕ, zero, suc, ◌*◌, ◌≤◌, ◌<◌, Bool, true, not, ◌&&◌, ◌≡◌, refl, List, [], ◌∷◌, leb, eqb, Float, length, get_or, Err}
 use Rattle.std.proofs.Common.{arith, leb-true}
 use Rattle.std.proofs.lemmas.Bool.{not-true}
-use Rattle.refusal.specs.Refusal.{refused, both, Test, each}
+use Rattle.refusal.specs.Refusal.{both, Test, each}
 use Rattle.lists.specs.Lists.{sum}
 use Rattle.movements.specs.PerMovement.{Counts}
 use Rattle.movements.specs.Movements.{flow_units}
@@ -81,7 +81,7 @@ plain_number n holds = not (eqb n 0) && not (eqb n 15)
 
 -- the record's numbers are plain; where the call's own are, a refusal by a test is told by its number
 pub own_case : (l : List ℕ) (own : Segment → List Test) → ((s : Segment) → each plain_number (own s) ≡ true) →
-    (n : ℕ) → accept_with l own ≡ refused n → outcome_of n zero64 ≡ Refused n
+    (n : ℕ) → accept_with l own ≡ Err n → outcome_of n zero64 ≡ Refused n
 own_case l own plain n e =
     let k = both (not (eqb n 0)) (not (eqb n 15)) (accept_numbers l own plain_number refl plain n e) in
     rw (not-true (eqb n 0) k.0, not-true (eqb n 15) k.1)

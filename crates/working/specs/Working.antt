@@ -1,6 +1,7 @@
 -- The working of a segment record over three lent profiles: what it answers and leaves in them, on every way.
-use Rattle.std.specs.Prelude.{ℕ, ◌*◌, Bool, ◌&&◌, ◌≡◌, List, [], ◌∷◌, leb, Float, length}
-use Rattle.refusal.specs.Refusal.{Or, refused, ok, test}
+use Rattle.std.specs.Prelude.{ℕ, ◌*◌, Bool, ◌&&◌, ◌≡◌, List, [], ◌∷◌, leb, Float, length, Ok, Err}
+use Rattle.refusal.specs.declared.Refusal.TheVariants.{ProfileRoom}
+use Rattle.refusal.specs.Refusal.{Or, test}
 use Rattle.segment.specs.declared.Segment.{Segment}
 use Rattle.segment.specs.Segment.{segment_of}
 use Rattle.validation.specs.Accepting.{accept_with}
@@ -22,7 +23,7 @@ fits output first second s = leb (4 * s.cycle) output && leb s.cycle first && le
 
 -- the places record and lent profiles
 abbrev pub accept_of : List ℕ → (output first second : ℕ) → Or Segment
-accept_of l output first second = accept_with l (λ s. test 16 (fits output first second s) ∷ [])
+accept_of l output first second = accept_with l (λ s. test ProfileRoom (fits output first second s) ∷ [])
 
 -- the place volumes: the sixteen pair flows, or 13, 14, 15
 unfoldable pub decision_for : Segment → Decision
@@ -46,8 +47,8 @@ abbrev pub by_decision : Segment → Decision → Profiles → Called
 by_decision s d p = by_outcome d.outcome s d p
 
 abbrev pub by_record : Or Segment → Profiles → Called
-by_record (refused n) p = called (refused_with (outcome_of n zero64)) p
-by_record (ok s) p = by_decision s (decision_for s) p
+by_record (Err n) p = called (refused_with (outcome_of n zero64)) p
+by_record (Ok s) p = by_decision s (decision_for s) p
 
 unfoldable pub call_of : List ℕ → Profiles → Called
 call_of l p = by_record (accept_of l (length p.output) (length p.first) (length p.second)) p
