@@ -1,60 +1,44 @@
-// The discharge call: a segment record's three discharge profiles and volumes, or a refusal by number.
+// The discharge call: a segment record's three discharge profiles and volumes, or a refusal.
 #![tactic(auto)]
 
 ghost use Rattle.std.specs.Prelude.{◌≡◌, ◌*◌, ◌≤◌, length};
-ghost use Rattle.refusal.specs.Refusal.{ok};
 ghost use Rattle.ranges.specs.Ranges.{Ranges};
-ghost use Rattle.validation.specs.Validation.{checked_of};
 ghost use Rattle.entries.specs.Entries.{entry_profiles};
-ghost use Rattle.discharge.specs.Discharge.{Calls, accept_of, answer_of};
+ghost use Rattle.discharge.specs.Discharge.{Calls, accept_of, volumes_of};
 
+use movements::Signalised;
+use refusal::{Refusal, need};
 use segment::Segment;
-use validation::Checked;
-
-// The paper's number, or the three entries' discharge volumes in veh/h.
-#[derive(Clone, Copy)]
-pub enum Discharged {
-    Refused(u32),
-    Volumes { left: u32, through: u32, right: u32 },
-}
 
 // Every refusal of the call, before anything is written.
-fn accept(bytes: &[u8], room: usize) -> Checked
-    ensures { result ≡ checked_of (accept_of bytes.now room) }
+#[tactic(auto, unfolding(validation::specs::Accepting::accept_with, refusal::specs::Refusal::need))]
+fn accept(bytes: &[u8], room: usize) -> Result<Segment, Refusal>
+    ensures { result ≡ accept_of bytes.now room }
 {
-    let checked = validation::check(bytes);
-    match checked {
-        Checked::Refused(n) => Checked::Refused(n),
-        Checked::Valid(s) => {
-            if (room as u64) < 3 * (s.cycle as u64) {
-                return Checked::Refused(16);
-            }
-            Checked::Valid(s)
-        }
-    }
+    let s = validation::check(bytes)?;
+    need(Refusal::ProfileRoom, 3 * u64::from(s.cycle) <= room as u64)?;
+    Ok(s)
 }
 
-fn write(s: Segment, profile: &mut [u32]) -> Discharged
+#[tactic(auto, unfolding(metering::specs::Metering::discharge_volumes))]
+fn write(s: Segment, profile: &mut [u32]) -> Signalised<u32>
     requires { Ranges s × (3 * s.cycle ≤ length profile.old) }
-    ensures value { result ≡ answer_of (ok s) }
+    ensures value { result ≡ volumes_of s }
     ensures profile_after { profile.new ≡ entry_profiles s profile.old }
 {
     let o = metering::discharge_volumes(s);
     entries::fill_profiles(s, o, profile);
-    Discharged::Volumes {
+    Signalised {
         left: o.left,
         through: o.through,
         right: o.right,
     }
 }
 
-// The three discharge profiles, C numbers each, to the front of a lent profile, and the three discharge volumes.
-pub fn discharge(bytes: &[u8], profile: &mut [u32]) -> Discharged
+// The three discharge profiles, C numbers each, to the front of a lent profile; the three discharge volumes are answered, in veh/h.
+pub fn discharge(bytes: &[u8], profile: &mut [u32]) -> Result<Signalised<u32>, Refusal>
     ensures { Calls bytes.now profile.old result profile.new }
 {
-    let accepted = accept(bytes, profile.len());
-    match accepted {
-        Checked::Refused(n) => Discharged::Refused(n),
-        Checked::Valid(s) => write(s, profile),
-    }
+    let s = accept(bytes, profile.len())?;
+    Ok(write(s, profile))
 }

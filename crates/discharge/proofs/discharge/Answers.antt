@@ -4,8 +4,7 @@ use Rattle.discharge.proofs.Laws.{asks, writes}
 use Rattle.discharge.proofs.discharge.Goals as goal
 
 pub write-requires : goal.write-requires
-write-requires c = asks _ c.args.profile.now _ (sym c.accept-accepted.ensures ∙ c.in-Valid.is)
+write-requires c = asks _ _ _ (sym c.accept.ensures ∙ c.in_ok-s.was)
 
-pub returns-in-Valid : goal.returns-in-Valid
-returns-in-Valid c =
-    writes _ _ _ (sym c.accept-accepted.ensures ∙ c.in-Valid.is) _ _ c.write.ensures.value c.write.ensures.profile_after
+pub returns : goal.returns
+returns c = writes _ _ _ (sym c.accept.ensures ∙ c.in_ok-s.was) _ _ c.write.ensures.value c.write.ensures.profile_after
