@@ -1,40 +1,33 @@
 -- The decision on volumes and seeds: refusals 13, 14, 15 in order, or the pair flows.
-use Rattle.std.specs.Prelude.{ℕ, ◌||◌, not, Ok, Err}
+use Rattle.std.specs.Prelude.{ℕ, ◌||◌, not, Result, Ok, Err}
 use Rattle.refusal.specs.declared.Refusal.TheVariants.{NoVolume, Unserved}
-use Rattle.refusal.specs.Refusal.{Or, need}
+use Rattle.refusal.specs.Refusal.{need}
 use Rattle.movements.specs.PerMovement.{Counts, Seeds}
 use Rattle.balance_flows.specs.declared.FlowTable.{FlowTable}
-use Rattle.balance_flows.specs.Flows.{zero64}
 use Rattle.balance.specs.declared.Settling.{Settling}
-use Rattle.balance.specs.declared.Settling.TheVariants.{Settled, Unsettled}
+use Rattle.balance.specs.declared.Settling.TheVariants as settling
 use Rattle.balance.specs.declared.Balance.{Balance}
 use Rattle.balance.specs.Settling.{balanced}
 use Rattle.pair_flows.specs.Pairs.{pair_flows}
-use Rattle.balance_pairs.specs.Pairs.{pair_rows, no_pairs}
+use Rattle.balance_pairs.specs.Pairs.{pair_rows}
 use Rattle.balance_refusals.specs.Refusals.{no_volume, any_unserved_entry, any_unserved_exit}
-use Rattle.balance_decision.specs.declared.Outcome.{Outcome}
 use Rattle.balance_decision.specs.declared.Decision.{Decision}
-use Rattle.balance_decision.specs.Outcome.{outcome_of}
+use Rattle.balance_decision.specs.declared.Unworked.{Unworked}
+use Rattle.balance_decision.specs.declared.Unworked.TheVariants.{Unsettled}
+use Rattle.balance_decision.specs.Unworked.{work_on}
 
--- a refusal: no rounds, no flows
-abbrev pub undecided : Outcome → Decision
-undecided outcome = record { outcome = outcome; rounds = 0; pairs = pair_flows no_pairs }
+-- settled: its last sum, rounds and pair flows; unsettled: 15 with its last sum
+abbrev pub by_settling : Settling → ℕ → FlowTable → Counts → Result Decision Unworked
+by_settling (settling.Settled sum) rounds cells o = Ok (record { sum = sum; rounds = rounds; pairs = pair_flows (pair_rows cells o) })
+by_settling (settling.Unsettled sum) rounds cells o = Err (Unsettled sum)
 
--- settled: its rounds and pair flows; unsettled: 15 with its last sum
-abbrev pub by_settling : Settling → ℕ → FlowTable → Counts → Decision
-by_settling (Settled sum) rounds cells o = record { outcome = outcome_of 0 sum; rounds = rounds; pairs = pair_flows (pair_rows cells o) }
-by_settling (Unsettled sum) rounds cells o = undecided (outcome_of 15 sum)
-
-unfoldable pub settled_to : Counts → Balance → Decision
+unfoldable pub settled_to : Counts → Balance → Result Decision Unworked
 settled_to o b = by_settling b.settling b.rounds b.cells o
 
-abbrev pub decided : Counts → Or Balance → Decision
-decided o (Err number) = undecided (outcome_of number zero64)
-decided o (Ok b) = settled_to o b
-
-unfoldable pub decision_of : Counts → Counts → Seeds → Decision
+unfoldable pub decision_of : Counts → Counts → Seeds → Result Decision Unworked
 decision_of o exits seeds =
-    decided o
+    work_on
     (need NoVolume (not (no_volume o exits))
     (need Unserved (not (any_unserved_entry o exits seeds || any_unserved_exit o exits seeds))
     (Ok (balanced o exits seeds))))
+    (settled_to o)

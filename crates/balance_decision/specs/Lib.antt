@@ -1,3 +1,3 @@
-pub mod Outcome
+pub mod Unworked
 pub mod Decision
 pub mod Meaning

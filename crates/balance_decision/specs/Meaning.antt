@@ -1,10 +1,10 @@
--- What a decision means: one with the number 0 is worked, and its pair flows use up each entry's discharge; none has more rounds than the limit.
+-- What a decision means: one that works has pair flows that use up each entry's discharge, and no more rounds than the limit;
+-- one that does not has the number 13, 14 or 15.
 -- Assumes nothing.
-use Rattle.std.specs.Prelude.{ℕ, ◌≤◌, Bool, not, ◌||◌, [], ◌∷◌, map, ◌≡◌, refl, Float, Ok}
-use Rattle.std.proofs.Math.Bool.{true, false}
-use native.Mathlib.Omega.{arith}
+use Rattle.std.specs.Prelude.{ℕ, ◌≤◌, Bool, true, false, [], ◌∷◌, map, ◌≡◌, refl, Ok, Err}
+use Rattle.std.proofs.Common.{arith, sym, ◌∙◌}
 use Rattle.refusal.specs.declared.Refusal.TheVariants.{NoVolume, Unserved}
-use Rattle.refusal.specs.Refusal.{need}
+use Rattle.refusal.specs.Refusal.{Or, need, need_rest, ok_refused}
 use Rattle.movements.specs.PerMovement.{Counts, Seeds}
 use Rattle.movements.specs.Movements.{flow_units}
 use Rattle.balance_flows.specs.declared.FlowTable.{FlowTable}
@@ -14,68 +14,64 @@ use Rattle.balance.specs.declared.Balance.{Balance}
 use Rattle.balance.specs.Settling.{round_limit, balanced}
 use Rattle.balance.proofs.Ending.{balanced_rounds}
 use Rattle.lists.specs.Lists.{sum}
+use Rattle.pair_flows.specs.Pairs.{pair_flows}
 use Rattle.balance_pairs.specs.Pairs.{pair_rows, rows_add}
-use Rattle.balance_refusals.specs.Refusals.{no_volume, any_unserved_entry, any_unserved_exit}
-use Rattle.balance_decision.specs.declared.Outcome.TheVariants.{Worked}
 use Rattle.balance_decision.specs.declared.Decision.{Decision}
-use Rattle.balance_decision.specs.Outcome.{refusal_of}
-use Rattle.balance_decision.specs.Decision.{by_settling, settled_to, decided, decision_of}
+use Rattle.balance_decision.specs.declared.Unworked.{Unworked}
+use Rattle.balance_decision.specs.declared.Unworked.TheVariants.{Refused, Unsettled}
+use Rattle.balance_decision.specs.Unworked.{unworked_number, work_on, work_on_ok}
+use Rattle.balance_decision.specs.Decision.{by_settling, settled_to, decision_of}
 
 module _ (o : Counts) where
-  -- worked, with pair flows that come from cells
+  -- pair flows that come from cells
   pub record FromCells (d : Decision) : Type 0 where
-    pub sum : Float
-    pub worked : d.outcome ≡ Worked sum
     pub cells : FlowTable
     pub rows : d.pairs.rows ≡ pair_rows cells o
 
-  by_settling_lem : (k : Settling) (n : ℕ) (c : FlowTable) → refusal_of (by_settling k n c o).outcome ≡ 0 → FromCells (by_settling k n c o)
-  by_settling_lem (settling.Settled x) n c e = record { sum = x; worked = refl; cells = c; rows = refl }
-  by_settling_lem (settling.Unsettled x) n c e = absurd (omega arith)
+  settled_cells : (k : Settling) (n : ℕ) (c : FlowTable) (d : Decision) → by_settling k n c o ≡ Ok d → FromCells d × (d.rounds ≡ n)
+  settled_cells (settling.Settled x) n c d e =
+      let is : d ≡ record { sum = x; rounds = n; pairs = pair_flows (pair_rows c o) } = cc in
+      rw is (record { cells = c; rows = refl }, refl)
+  settled_cells (settling.Unsettled x) n c d e = ok_refused (sym e)
 
-  by_tests : (t u : Bool) (b : Balance) → let d = decided o (need NoVolume t (need Unserved u (Ok b))) in refusal_of d.outcome ≡ 0 → FromCells d
-  unfolding need settled_to
-  by_tests false u b e = absurd (omega arith)
-  by_tests true false b e = absurd (omega arith)
-  by_tests true true b e = by_settling_lem b.settling b.rounds b.cells e
+  -- a decision that works is that of the settling
+  of_settling : (exits : Counts) (s : Seeds) (d : Decision) → decision_of o exits s ≡ Ok d →
+      let b = balanced o exits s in FromCells d × (d.rounds ≡ b.rounds)
+  unfolding decision_of settled_to
+  of_settling exits s d e =
+      let w = work_on_ok _ _ d e in
+      let served = need_rest NoVolume _ _ w.0 w.1 in
+      let is : ◌≡◌ {A = Or Balance} (Ok (balanced o exits s)) (Ok w.0) = need_rest Unserved _ _ w.0 served in
+      let same : w.0 ≡ balanced o exits s = cc in
+      let b = w.0 in
+      let c = settled_cells b.settling b.rounds b.cells d w.2 in
+      (c.0, c.1 ∙ rw same)
 
-  pub from_cells : (exits : Counts) (s : Seeds) → refusal_of (decision_of o exits s).outcome ≡ 0 → FromCells (decision_of o exits s)
-  unfolding decision_of
-  from_cells exits s = by_tests (not (no_volume o exits)) (not (any_unserved_entry o exits s || any_unserved_exit o exits s)) (balanced o exits s)
+  pub from_cells : (exits : Counts) (s : Seeds) (d : Decision) → decision_of o exits s ≡ Ok d → FromCells d
+  from_cells exits s d e = (of_settling exits s d e).0
 
   -- so each entry's row adds to 1000·O
-  pub shared_adds : (exits : Counts) (s : Seeds) → refusal_of (decision_of o exits s).outcome ≡ 0 →
-      map sum (decision_of o exits s).pairs.rows ≡ map flow_units (o.left ∷ o.through ∷ o.right ∷ o.access ∷ [])
-  shared_adds exits s e = let f = from_cells exits s e in rw f.rows (rows_add f.cells o)
+  pub shared_adds : (exits : Counts) (s : Seeds) (d : Decision) → decision_of o exits s ≡ Ok d →
+      map sum d.pairs.rows ≡ map flow_units (o.left ∷ o.through ∷ o.right ∷ o.access ∷ [])
+  shared_adds exits s d e = let f = from_cells exits s d e in rw f.rows (rows_add f.cells o)
 
-  -- the number is 0, 13, 14 or 15
-  number_by_settling : (k : Settling) (n : ℕ) (c : FlowTable) → refusal_of (by_settling k n c o).outcome ≤ 15
-  number_by_settling (settling.Settled x) n c = omega arith
-  number_by_settling (settling.Unsettled x) n c = omega arith
+  -- no more rounds than the limit
+  pub decision_rounds : (exits : Counts) (s : Seeds) (d : Decision) → decision_of o exits s ≡ Ok d → d.rounds ≤ round_limit
+  decision_rounds exits s d e = omega (arith, (of_settling exits s d e).1, balanced_rounds o exits s)
 
-  number_by_tests : (t u : Bool) (b : Balance) → refusal_of (decided o (need NoVolume t (need Unserved u (Ok b)))).outcome ≤ 15
+  -- ---- one that does not work
+
+  number_by_settling : (k : Settling) (n : ℕ) (c : FlowTable) (u : Unworked) → by_settling k n c o ≡ Err u → unworked_number u ≡ 15
+  number_by_settling (settling.Settled x) n c u e = ok_refused e
+  number_by_settling (settling.Unsettled x) n c u e = let is : u ≡ Unsettled x = cc in rw is refl
+
+  number_by_tests : (t v : Bool) (b : Balance) (u : Unworked) → work_on (need NoVolume t (need Unserved v (Ok b))) (settled_to o) ≡ Err u →
+      (13 ≤ unworked_number u) × (unworked_number u ≤ 15)
   unfolding need settled_to
-  number_by_tests false u b = omega arith
-  number_by_tests true false b = omega arith
-  number_by_tests true true b = number_by_settling b.settling b.rounds b.cells
+  number_by_tests false v b u e = let is : u ≡ Refused NoVolume = cc in rw is (omega arith, omega arith)
+  number_by_tests true false b u e = let is : u ≡ Refused Unserved = cc in rw is (omega arith, omega arith)
+  number_by_tests true true b u e = let n = number_by_settling b.settling b.rounds b.cells u e in (omega arith, omega arith)
 
-  pub decision_number : (exits : Counts) (s : Seeds) → refusal_of (decision_of o exits s).outcome ≤ 15
+  pub decision_number : (exits : Counts) (s : Seeds) (u : Unworked) → decision_of o exits s ≡ Err u → (13 ≤ unworked_number u) × (unworked_number u ≤ 15)
   unfolding decision_of
-  decision_number exits s =
-      number_by_tests (not (no_volume o exits)) (not (any_unserved_entry o exits s || any_unserved_exit o exits s)) (balanced o exits s)
-
-  -- ---- the rounds of a decision, none of one that is refused
-
-  settling_rounds : (k : Settling) {n : ℕ} (c : FlowTable) → n ≤ round_limit → (by_settling k n c o).rounds ≤ round_limit
-  settling_rounds (settling.Settled x) c h = h
-  settling_rounds (settling.Unsettled x) c h = omega arith
-
-  tests_rounds : (t u : Bool) (b : Balance) → b.rounds ≤ round_limit → (decided o (need NoVolume t (need Unserved u (Ok b)))).rounds ≤ round_limit
-  unfolding need settled_to
-  tests_rounds false u b h = omega arith
-  tests_rounds true false b h = omega arith
-  tests_rounds true true b h = settling_rounds b.settling b.cells h
-
-  pub decision_rounds : (exits : Counts) (s : Seeds) → (decision_of o exits s).rounds ≤ round_limit
-  unfolding decision_of
-  decision_rounds exits s = tests_rounds _ _ (balanced o exits s) (balanced_rounds o exits s)
+  decision_number exits s = number_by_tests _ _ (balanced o exits s)

@@ -4,89 +4,85 @@
 
 ghost use Rattle.std.specs.Prelude.{◌≡◌};
 ghost use Rattle.balance_pairs.specs.Pairs.{WithinLimit};
-ghost use Rattle.balance_decision.specs.Outcome.{last_sum_of, refusal_of};
-ghost use Rattle.balance_decision.specs.Decision.{decision_of, settled_to, undecided};
+ghost use Rattle.balance_decision.specs.declared.Unworked.TheVariants.{Refused};
+ghost use Rattle.balance_decision.specs.Unworked.{last_sum, unworked_number};
+ghost use Rattle.balance_decision.specs.Decision.{decision_of, settled_to};
 
 use balance::{Balance, Settling};
 use movements::{Counts, Seeds};
 use pair_flows::PairFlows;
+use refusal::{Refusal, need};
 
-// Worked and unsettled, 15, tell the last sum of differences; a refusal tells the paper's number.
-#[derive(Clone, Copy)]
-pub enum Outcome {
-    Worked(f64),
-    Refused(u32),
-    Unsettled(f64),
-}
-
-// Where refused, 15 too, no rounds are told and the pair flows are all 0.
+// The pair flows, with the rounds and the last sum of differences of the settling that led to them.
 #[derive(Clone, Copy)]
 pub struct Decision {
-    pub outcome: Outcome,
+    pub sum: f64,
     pub rounds: u32,
     pub pairs: PairFlows,
 }
 
-// The paper's number, 0 where worked.
-pub fn refusal_of(outcome: Outcome) -> u32
-    ensures { result ≡ refusal_of outcome }
-{
-    match outcome {
-        Outcome::Worked(_) => 0,
-        Outcome::Refused(n) => n,
-        Outcome::Unsettled(_) => 15,
+// Why a working has no figures: a refusal, or 15, which tells the last sum of differences.
+#[derive(Clone, Copy)]
+pub enum Unworked {
+    Refused(Refusal),
+    Unsettled(f64),
+}
+
+impl From<Refusal> for Unworked {
+    ghost from_gives = { λ refusal unworked. unworked ≡ Refused refusal };
+
+    fn from(refusal: Refusal) -> Unworked {
+        Unworked::Refused(refusal)
     }
 }
 
-// 0 where the outcome tells none.
-pub fn last_sum_of(outcome: Outcome) -> f64
-    ensures { result ≡ last_sum_of outcome }
-{
-    match outcome {
-        Outcome::Worked(sum) => sum,
-        Outcome::Refused(_) => 0.0,
-        Outcome::Unsettled(sum) => sum,
+impl Unworked {
+    // The paper's number.
+    pub fn number(self) -> u32
+        ensures { result ≡ unworked_number self }
+    {
+        match self {
+            Unworked::Refused(refusal) => refusal.number(),
+            Unworked::Unsettled(_) => 15,
+        }
+    }
+
+    // 0 where it tells none.
+    pub fn last_sum(self) -> f64
+        ensures { result ≡ last_sum self }
+    {
+        match self {
+            Unworked::Refused(_) => 0.0,
+            Unworked::Unsettled(sum) => sum,
+        }
     }
 }
 
-fn undecided(outcome: Outcome) -> Decision
-    ensures { result ≡ undecided outcome }
-{
-    Decision {
-        outcome,
-        rounds: 0,
-        pairs: pair_flows::from_rows([[0u32; 4]; 4]),
-    }
-}
-
-fn settled_to(o: Counts, b: Balance) -> Decision
+#[tactic(auto, unfolding(crate::specs::Decision::settled_to))]
+fn settled_to(o: Counts, b: Balance) -> Result<Decision, Unworked>
     requires { WithinLimit o }
     ensures { result ≡ settled_to o b }
 {
     let settling = b.settling;
     match settling {
-        Settling::Settled(sum) => Decision {
-            outcome: Outcome::Worked(sum),
+        Settling::Settled(sum) => Ok(Decision {
+            sum,
             rounds: b.rounds,
             pairs: pair_flows::from_rows(balance_pairs::pair_rows(b.cells, o)),
-        },
-        Settling::Unsettled(sum) => undecided(Outcome::Unsettled(sum)),
+        }),
+        Settling::Unsettled(sum) => Err(Unworked::Unsettled(sum)),
     }
 }
 
 // The refusals in their order, then the settling and its pair flows.
-pub fn decide(o: Counts, exits: Counts, seeds: Seeds) -> Decision
+#[tactic(auto, unfolding(crate::specs::Decision::decision_of, refusal::specs::Refusal::need))]
+pub fn decide(o: Counts, exits: Counts, seeds: Seeds) -> Result<Decision, Unworked>
     requires { WithinLimit o }
     ensures { result ≡ decision_of o exits seeds }
 {
-    let empty = balance_refusals::no_volume(o, exits);
+    need(Refusal::NoVolume, !balance_refusals::no_volume(o, exits))?;
     let unserved = balance_refusals::any_unserved_entry(o, exits, seeds)
         | balance_refusals::any_unserved_exit(o, exits, seeds);
-    if empty {
-        return undecided(Outcome::Refused(13));
-    }
-    if unserved {
-        return undecided(Outcome::Refused(14));
-    }
+    need(Refusal::Unserved, !unserved)?;
     settled_to(o, balance::balanced(o, exits, seeds))
 }
