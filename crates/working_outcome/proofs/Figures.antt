@@ -1,14 +1,12 @@
 -- The figures of a filled output, run by run.
 use Rattle.std.proofs.Common.{ℕ, ◌+◌, ◌-◌, ◌*◌, ◌≤◌, ◌<◌, ◌≡◌, List, length, take, drop, arith}
-use Rattle.std.specs.Float.{Float}
 use Rattle.lists.specs.Lists.{sum}
 use Rattle.segment.specs.declared.Segment.{Segment}
 use Rattle.dispersion.specs.Dispersion.{arrival_time_of}
 use Rattle.arrivals.proofs.Laws.{run_of_lem, runs_length}
 use Rattle.exit_figures.specs.declared.ExitFigures.{ExitFigures}
 use Rattle.exit_figures.specs.ExitFigures.{figures_of, blocked_steps}
-use Rattle.balance_decision.specs.declared.Outcome.TheVariants.{Worked}
-use Rattle.pair_flows.specs.declared.PairFlows.{PairFlows}
+use Rattle.balance_decision.specs.declared.Decision.{Decision}
 use Rattle.propagation.specs.Propagation.{flow_at}
 use Rattle.working_outcome.specs.declared.Working.{Working}
 use Rattle.working_outcome.specs.Answer.{run_of, worked_of}
@@ -24,16 +22,17 @@ module _ {s : Segment} {rows : List (List ℕ)} {output : List ℕ} (f : Filled 
   run_is j a b h ea eb = rw (eb, ea, f.is) (run_of_lem s.cycle (flow_at s rows) f.rest j h)
 
 -- the answer from its fields, each run as it is lent
-pub worked_is : {s : Segment} {p : PairFlows} {output : List ℕ} → Filled s p.rows output → (x : Float) (n : ℕ) {a : ℕ} {l t r : ExitFigures} {d b : ℕ} →
+pub worked_is : {s : Segment} {w : Decision} {output : List ℕ} → Filled s w.pairs.rows output → {a : ℕ} {l t r : ExitFigures} {d b : ℕ} →
     let c = s.cycle in
     let through = take (c + c - c) (drop c output) in
     a ≡ arrival_time_of s.running → l ≡ figures_of s.downstream.left (take (c - 0) output) → t ≡ figures_of s.downstream.through through →
     r ≡ figures_of s.downstream.right (take (c + c + c - (c + c)) (drop (c + c) output)) →
     d ≡ sum (take (c + c + c + c - (c + c + c)) (drop (c + c + c) output)) → b ≡ blocked_steps s.headway through →
-    ◌≡◌ {A = Working} (record { outcome = Worked x; arrival = a; rounds = n; pairs = p; left = l; through = t; right = r; access = d; blocked = b })
-    (worked_of s x n p)
+    ◌≡◌ {A = Working}
+    (record { sum = w.sum; arrival = a; rounds = w.rounds; pairs = w.pairs; left = l; through = t; right = r; access = d; blocked = b })
+    (worked_of s w)
 unfolding worked_of
-worked_is {s} f x n ea el et er ed eb =
+worked_is {s} f ea el et er ed eb =
     let c = s.cycle in
     let run0 = run_is f 0 0 c (omega arith) (omega arith) (omega arith) in
     let run1 = run_is f 1 c (c + c) (omega arith) (omega arith) (omega arith) in

@@ -17,4 +17,4 @@ slice_bounds-total-end c = omega (arith, output_long c.requires)
 
 pub returns : goal.returns
 returns c =
-    worked_is c.requires _ _ c.arrival_time.ensures c.figures.ensures c.figures-2.ensures c.figures-3.ensures c.total.ensures c.blocked_steps.ensures
+    worked_is c.requires c.arrival_time.ensures c.figures.ensures c.figures-2.ensures c.figures-3.ensures c.total.ensures c.blocked_steps.ensures
