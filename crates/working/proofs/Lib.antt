@@ -1,4 +1,3 @@
 pub mod Deciding
 pub mod Decided
 pub mod Ways
-pub mod Working

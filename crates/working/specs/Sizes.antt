@@ -1,6 +1,6 @@
 -- How large the figures of a record that is decided to work can be.
-use Rattle.std.specs.Prelude.{ℕ, ◌*◌, ◌≤◌, ◌<◌, ◌≡◌, List, [], Float, length, get_or}
-use Rattle.std.proofs.Common.{arith, ap}
+use Rattle.std.specs.Prelude.{ℕ, ◌*◌, ◌≤◌, ◌<◌, ◌≡◌, List, [], length, get_or, Ok}
+use Rattle.std.proofs.Common.{arith}
 use Rattle.limits.specs.Limits.{most_cycle, entry_limit, step_bound}
 use Rattle.lists.specs.Lists.{sum, sum_le, tab_length, tab_each_le}
 use Rattle.movements.specs.Movements.{flow_units}
@@ -10,8 +10,7 @@ use Rattle.segment.specs.declared.Segment.{Segment}
 use Rattle.ranges.specs.Ranges.{Ranges}
 use Rattle.metering.specs.Metering.{discharge_volumes}
 use Rattle.balance.specs.Settling.{round_limit}
-use Rattle.balance_decision.specs.declared.Outcome.TheVariants.{Worked}
-use Rattle.balance_decision.specs.Outcome.{refusal_of}
+use Rattle.balance_decision.specs.declared.Decision.{Decision}
 use Rattle.balance_decision.specs.Meaning.{decision_rounds}
 use Rattle.dispersion.specs.Arrivals.{arrival_time_small}
 use Rattle.exit_figures.specs.declared.ExitFigures.{ExitFigures}
@@ -66,17 +65,17 @@ module _ (s : Segment) (rows : List (List ℕ)) (r : Ranges s) (fit : RowsFit s 
 
 -- ---- of every record that is decided to work
 
-module _ (s : Segment) (r : Ranges s) (x : Float) (e : (decision_for s).outcome ≡ Worked x) where
-  fit : RowsFit s (decision_for s).pairs.rows
-  fit = rows_fit s (ap refusal_of e)
+module _ (s : Segment) (r : Ranges s) (d : Decision) (e : decision_for s ≡ Ok d) where
+  fit : RowsFit s d.pairs.rows
+  fit = rows_fit s d e
 
-  pub worked_sized : FiguresSized (worked_of s x (decision_for s).rounds (decision_for s).pairs)
+  pub worked_sized : FiguresSized (worked_of s d)
   unfolding worked_of decision_for
   worked_sized =
-      let rows = (decision_for s).pairs.rows in
+      let rows = d.pairs.rows in
       record {
         arrival = arrival_time_small s.running r.running.1;
-        rounds = decision_rounds (discharge_volumes s) s.exits s.seeds;
+        rounds = decision_rounds (discharge_volumes s) s.exits s.seeds d e;
         four = fit.four;
         pairs = pair_flow_le s rows r fit;
         left = exit_sized s rows r fit 0 s.downstream.left r.left_green;
@@ -85,5 +84,5 @@ module _ (s : Segment) (r : Ranges s) (x : Float) (e : (decision_for s).outcome 
       }
 
   -- each number of an exit's run
-  pub run_sized : (j : ℕ) → j < 4 → (i : ℕ) → get_or (run_of s (decision_for s).pairs.rows j) i 0 ≤ largest_flow
-  run_sized j h = run_le s (decision_for s).pairs.rows r fit j
+  pub run_sized : (j : ℕ) → j < 4 → (i : ℕ) → get_or (run_of s d.pairs.rows j) i 0 ≤ largest_flow
+  run_sized j h = run_le s d.pairs.rows r fit j

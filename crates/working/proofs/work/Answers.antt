@@ -1,13 +1,16 @@
 -- A record refused, or accepted and worked: either way the call's answer, its profiles and demand 3.
 use Rattle.std.proofs.Common.{sym, ◌∙◌}
+use Rattle.std.proofs.lemmas.Result.{err_from_is_err_and}
 use Rattle.working.proofs.Deciding.{record_passed, record_worked, record_refused}
 use Rattle.working.proofs.work.Goals as goal
 
+pub returns-in_err-s : goal.returns-in_err-s
+returns-in_err-s c =
+    let p = err_from_is_err_and c.from_residual.result c.from_residual.ensures.1 in
+    rw (p.1, p.2) (record_refused _ _ _ (sym c.accept.ensures ∙ c.in_err-s.was))
+
 pub work_accepted-requires : goal.work_accepted-requires
-work_accepted-requires c = record_passed _ _ _ (sym c.accept-accepted.ensures ∙ c.in-Valid.is)
+work_accepted-requires c = record_passed _ _ _ (sym c.accept.ensures ∙ c.in_ok-s.was)
 
-pub returns-in-Refused : goal.returns-in-Refused
-returns-in-Refused c = record_refused _ _ _ (sym c.accept-accepted.ensures ∙ c.in-Refused.is) _ c.refused.ensures
-
-pub returns-in-Valid : goal.returns-in-Valid
-returns-in-Valid c = record_worked _ _ _ (sym c.accept-accepted.ensures ∙ c.in-Valid.is) _ _ c.work_accepted.ensures
+pub returns : goal.returns
+returns c = record_worked _ _ _ (sym c.accept.ensures ∙ c.in_ok-s.was) _ _ c.work_accepted.ensures
