@@ -55,7 +55,7 @@ fn undecided(outcome: Outcome) -> Decision
     Decision {
         outcome,
         rounds: 0,
-        pairs: pair_flows::from_rows([[0u32; 4]; 4]),
+        pairs: PairFlows::from([[0; 4]; 4]),
     }
 }
 
@@ -68,7 +68,7 @@ fn settled_to(o: Counts, b: Balance) -> Decision
         Settling::Settled(sum) => Decision {
             outcome: Outcome::Worked(sum),
             rounds: b.rounds,
-            pairs: pair_flows::from_rows(balance_pairs::pair_rows(b.cells, o)),
+            pairs: PairFlows::from(balance_pairs::pair_rows(b.cells, o)),
         },
         Settling::Unsettled(sum) => undecided(Outcome::Unsettled(sum)),
     }

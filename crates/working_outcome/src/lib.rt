@@ -38,7 +38,7 @@ pub fn refused(outcome: Outcome) -> Working
         outcome,
         arrival: 0,
         rounds: 0,
-        pairs: pair_flows::from_rows([[0u32; 4]; 4]),
+        pairs: PairFlows::from([[0; 4]; 4]),
         left: none,
         through: none,
         right: none,
