@@ -2,8 +2,7 @@
 use Rattle.std.specs.Prelude.{ℕ, ◌||◌, not}
 use Rattle.refusal.specs.Refusal.{Or, refused, ok, need}
 use Rattle.movements.specs.PerMovement.{Counts, Seeds}
-use Rattle.balance_flows.specs.declared.FlowTable.{FlowTable}
-use Rattle.balance_flows.specs.Flows.{zero64}
+use Rattle.balance_flows.specs.Flows.{FlowTable, zero64}
 use Rattle.balance.specs.declared.Settling.{Settling}
 use Rattle.balance.specs.declared.Settling.TheVariants.{Settled, Unsettled}
 use Rattle.balance.specs.declared.Balance.{Balance}

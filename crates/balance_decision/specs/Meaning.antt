@@ -6,7 +6,7 @@ use native.Mathlib.Omega.{arith}
 use Rattle.refusal.specs.Refusal.{ok, need}
 use Rattle.movements.specs.PerMovement.{Counts, Seeds}
 use Rattle.movements.specs.Movements.{flow_units}
-use Rattle.balance_flows.specs.declared.FlowTable.{FlowTable}
+use Rattle.balance_flows.specs.Flows.{FlowTable}
 use Rattle.balance.specs.declared.Settling.{Settling}
 use Rattle.balance.specs.declared.Settling.TheVariants as settling
 use Rattle.balance.specs.declared.Balance.{Balance}

@@ -11,9 +11,7 @@ use Rattle.segment.specs.declared.Segment.{Segment}
 use Rattle.ranges.specs.Ranges.{Ranges}
 use Rattle.validation.specs.Accepting.{accept_with}
 use Rattle.validation.proofs.Accepting.{accept_numbers}
-use Rattle.balance_flows.specs.declared.Flows.{Flows}
-use Rattle.balance_flows.specs.declared.FlowTable.{FlowTable}
-use Rattle.balance_flows.specs.Flows.{zero64}
+use Rattle.balance_flows.specs.Flows.{Flows, FlowTable, zero64}
 use Rattle.metering.specs.Metering.{discharge_volumes, discharge_units}
 use Rattle.balance_pairs.specs.Pairs.{pair_row, pair_rows, row_adds_lem}
 use Rattle.balance_decision.specs.declared.Outcome.TheVariants.{Worked, Refused}
