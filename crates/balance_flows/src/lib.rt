@@ -3,7 +3,6 @@
 #![tactic(auto)]
 
 ghost use Rattle.std.specs.Prelude.{◌≡◌};
-ghost use Rattle.std.specs.Float.Ieee.Scale.{finite};
 ghost use Rattle.balance_flows.specs.Flows.{all_finite, table_finite, total, quotient, quotients};
 
 use movements::PerMovement;
@@ -14,18 +13,11 @@ pub type Flows = PerMovement<f64>;
 // A row of four exits for each entry.
 pub type FlowTable = PerMovement<Flows>;
 
-pub fn is_finite(x: f64) -> bool
-    ensures { result ≡ finite x }
-{
-    let infinity = 1.0 / 0.0;
-    (-infinity < x) & (x < infinity)
-}
-
-#[tactic(auto, unfolding(crate::specs::Flows::all_finite))]
+#[tactic(auto, unfolding(crate::specs::Flows::all_finite), using(crate::proofs::Finite::is_finite_is))]
 pub fn all_finite(x: Flows) -> bool
     ensures { result ≡ all_finite x }
 {
-    x.map(is_finite).all()
+    x.map(f64::is_finite).all()
 }
 
 #[tactic(auto, unfolding(crate::specs::Flows::table_finite))]
