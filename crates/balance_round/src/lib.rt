@@ -9,7 +9,7 @@ use balance_flows::{FlowTable, Flows};
 
 // What one round computes, in its order: adjusted destination volumes Da, destination adjustment factors b,
 // origin adjustment factors, adjusted origin volumes Oa, and the sum of the differences of new and old Oa.
-#[derive(Clone, Copy)]
+#[derive(Clone, Copy, Default)]
 pub struct Round {
     pub destinations: Flows,
     pub ratios: Flows,
