@@ -13,9 +13,9 @@ pub record RoundsLeft (limit : ℕ) (o d : Flows) (p : FlowTable) (before : Roun
   pub within : n ≤ limit
   pub same : settle limit o d p ≡ report (rounds (limit - n) o d p (Running n before))
 
-pub rounds_start : (limit : ℕ) (o d : Flows) (p : FlowTable) {before : Round} → before ≡ start o → RoundsLeft limit o d p before 0
+pub rounds_start : {limit : ℕ} {o d : Flows} {p : FlowTable} {before : Round} → before ≡ start o → RoundsLeft limit o d p before 0
 unfolding settle
-rounds_start limit o d p e = let z : limit - 0 ≡ limit = omega arith in record { within = omega arith; same = rw (e, z) }
+rounds_start {limit} e = let z : limit - 0 ≡ limit = omega arith in record { within = omega arith; same = rw (e, z) }
 
 module _ {limit : ℕ} {o d : Flows} {p : FlowTable} {before : Round} {n : ℕ} (r : RoundsLeft limit o d p before n) where
   pub spent : limit ≤ n → unsettled before.change limit ≡ settle limit o d p

@@ -85,6 +85,7 @@ fn start(o: Flows) -> Round
     }
 }
 
+#[tactic(auto, using(crate::proofs::Rounds::stopped, crate::proofs::Rounds::closes, crate::proofs::Rounds::goes, crate::proofs::Rounds::spent))]
 fn settle(o: Flows, d: Flows, p: FlowTable) -> Balance
     ensures { result ≡ settle round_limit o d p }
 {
