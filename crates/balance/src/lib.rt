@@ -3,7 +3,7 @@
 #![tactic(auto)]
 
 ghost use Rattle.std.specs.Prelude.{◌≡◌};
-ghost use Rattle.balance.specs.Settling.{round_limit, cell, cell_row, cells_of, unsettled, closed, start, settle, balanced};
+ghost use Rattle.balance.specs.Settling.{round_limit, cells_of, unsettled, closed, start, settle, balanced};
 
 use balance_flows::{FlowTable, Flows};
 use balance_round::Round;
@@ -29,24 +29,11 @@ const ROUND_LIMIT: u32 = 200;
 // A sum of differences below it settles.
 const THRESHOLD: f64 = 0.01;
 
-fn cell(oa: f64, b: f64, p: f64) -> f64
-    ensures { result ≡ cell oa b p }
-{
-    oa * b * p
-}
-
-#[tactic(auto, unfolding(crate::specs::Settling::cell_row))]
-fn cell_row(oa: f64, b: Flows, p: Flows) -> Flows
-    ensures { result ≡ cell_row oa b p }
-{
-    b.zip_with(p, |b, p| cell(oa, b, p))
-}
-
-#[tactic(auto, unfolding(crate::specs::Settling::cells_of))]
+#[tactic(auto, unfolding(crate::specs::Settling::cells_of, crate::specs::Settling::cell_row))]
 fn cells_of(origins: Flows, b: Flows, p: FlowTable) -> FlowTable
     ensures { result ≡ cells_of origins b p }
 {
-    origins.zip_with(p, |oa, row| cell_row(oa, b, row))
+    origins.zip_with(p, |oa, row| b.zip_with(row, |b, seed| oa * b * seed))
 }
 
 fn unsettled(sum: f64, rounds: u32) -> Balance
