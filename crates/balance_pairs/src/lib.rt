@@ -1,5 +1,6 @@
 // The pair flows of each entry: what its discharge sends to each exit.
 // A lower layer's crate: `pair_rows` asks that no entry discharges more than 6000 veh/h.
+// `WithinLimit` is a clause and no type of its own: to the refusals and the settling the same volumes are plain counts.
 #![tactic(auto)]
 
 ghost use Rattle.std.specs.Prelude.{◌≡◌, ◌≤◌};
