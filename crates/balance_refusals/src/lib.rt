@@ -35,7 +35,7 @@ pub fn any_unserved_entry(o: Counts, exits: Counts, s: Seeds) -> bool
         .any()
 }
 
-// As the entries, with the seeds of an exit by entry.
+// The entries' test with the two sides exchanged. Volumes and seeds stand apart, not in one struct, so that a call can exchange them.
 #[tactic(auto, using(crate::proofs::Exits::as_entries))]
 pub fn any_unserved_exit(o: Counts, exits: Counts, s: Seeds) -> bool
     ensures { result ≡ any_unserved_exit o exits s }
