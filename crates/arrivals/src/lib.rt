@@ -20,8 +20,8 @@ fn part_of(arrival: u32, v: u32, w: u32, carry: u32) -> Part
     requires { (v ≤ w) × (carry < w) }
     ensures { (result.flow ≡ part_of v w carry arrival) × (result.carry ≡ rest_of v w carry arrival) }
 {
-    let whole = (arrival as u64) * (v as u64) + (carry as u64);
-    let by = w as u64;
+    let whole = u64::from(arrival) * u64::from(v) + u64::from(carry);
+    let by = u64::from(w);
     Part {
         flow: (whole / by) as u32,
         carry: (whole % by) as u32,
@@ -39,14 +39,12 @@ fn add_pair(arrived: &[u32], v: u32, w: u32, t: u32, run: &mut [u32])
     let c = run.len() as u32;
     let mut lands = signal::later(c, Step(1), t);
     let mut carry: u32 = 0;
-    let mut i: usize = 0;
-    while i < arrived.len() {
-        let piece = part_of(arrived[i], v, w, carry);
+    for arrival in arrived {
+        let piece = part_of(*arrival, v, w, carry);
         let at = signal::index(lands);
         run[at] += piece.flow;
         carry = piece.carry;
         lands = signal::next(c, lands);
-        i += 1;
     }
 }
 
@@ -57,12 +55,10 @@ pub fn add_whole(arrived: &[u32], t: u32, run: &mut [u32])
 {
     let c = run.len() as u32;
     let mut step = signal::later(c, Step(1), t);
-    let mut k: usize = 0;
-    while k < arrived.len() {
+    for arrival in arrived {
         let at = signal::index(step);
-        run[at] += arrived[k];
+        run[at] += *arrival;
         step = signal::next(c, step);
-        k += 1;
     }
 }
 
@@ -72,11 +68,9 @@ pub fn add_entry(arrived: &[u32], row: [u32; 4], w: u32, t: u32, out: &mut [u32]
     ensures { out.new ≡ entry_added (length arrived.now) t w arrived.now row out.old }
 {
     let c = arrived.len();
-    let mut j: usize = 0;
-    while j < 4 {
+    for (j, v) in row.iter().enumerate() {
         let at = j * c;
-        add_pair(arrived, row[j], w, t, &mut out[at..at + c]);
-        j += 1;
+        add_pair(arrived, *v, w, t, &mut out[at..at + c]);
     }
 }
 
@@ -85,10 +79,8 @@ pub fn begin(c: usize, row: [u32; 4], out: &mut [u32])
     requires { 4 * c ≤ length out.old }
     ensures { out.new ≡ begun c row out.old }
 {
-    let mut j: usize = 0;
-    while j < 4 {
-        let from = j * c;
-        runs::fill(&mut out[from..from + c], row[j]);
-        j += 1;
+    for (j, v) in row.iter().enumerate() {
+        let at = j * c;
+        runs::fill(&mut out[at..at + c], *v);
     }
 }

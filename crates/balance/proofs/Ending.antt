@@ -8,8 +8,7 @@ use Rattle.std.proofs.Math.Numerals.{add-one}
 use native.Mathlib.Omega.{arith}
 use Rattle.std.specs.Float.Ieee.{lt}
 use Rattle.movements.specs.PerMovement.{Counts, Seeds}
-use Rattle.balance_flows.specs.declared.Flows.{Flows}
-use Rattle.balance_flows.specs.declared.FlowTable.{FlowTable}
+use Rattle.balance_flows.specs.Flows.{Flows, FlowTable}
 use Rattle.balance_round.specs.Round.{stops}
 use Rattle.balance.specs.declared.Balance.{Balance}
 use Rattle.balance.specs.Settling.{round_limit, threshold, by_cells, closed}

@@ -2,8 +2,7 @@
 -- Assumes nothing.
 use Rattle.std.proofs.Common.{ℕ, suc, ◌+◌, ◌-◌, ◌<◌, ◌≤◌, ◌≡◌, sym, ◌∙◌, Bool, true, false, arith}
 use Rattle.std.specs.Float.Ieee.{lt}
-use Rattle.balance_flows.specs.declared.Flows.{Flows}
-use Rattle.balance_flows.specs.declared.FlowTable.{FlowTable}
+use Rattle.balance_flows.specs.Flows.{Flows, FlowTable}
 use Rattle.balance_round.specs.declared.Round.{Round}
 use Rattle.balance_round.specs.Round.{round_of, stops}
 use Rattle.balance.specs.Settling.{threshold, cells_of, unsettled, closed, start, Running, after, next, rounds, report, settle}
@@ -14,14 +13,14 @@ pub record RoundsLeft (limit : ℕ) (o d : Flows) (p : FlowTable) (before : Roun
   pub within : n ≤ limit
   pub same : settle limit o d p ≡ report (rounds (limit - n) o d p (Running n before))
 
-pub rounds_start : (limit : ℕ) (o d : Flows) (p : FlowTable) {before : Round} → before ≡ start o → RoundsLeft limit o d p before 0
+pub rounds_start : {limit : ℕ} {o d : Flows} {p : FlowTable} {before : Round} → before ≡ start o → RoundsLeft limit o d p before 0
 unfolding settle
-rounds_start limit o d p e = let z : limit - 0 ≡ limit = omega arith in record { within = omega arith; same = rw (e, z) }
+rounds_start {limit} e = let z : limit - 0 ≡ limit = omega arith in record { within = omega arith; same = rw (e, z) }
 
 module _ {limit : ℕ} {o d : Flows} {p : FlowTable} {before : Round} {n : ℕ} (r : RoundsLeft limit o d p before n) where
-  pub spent : limit ≤ n → unsettled before.change n ≡ settle limit o d p
+  pub spent : limit ≤ n → unsettled before.change limit ≡ settle limit o d p
   unfolding rounds report
-  spent h = let e : limit - n ≡ 0 = omega arith in sym (r.same ∙ rw e)
+  spent h = let e : limit - n ≡ 0 = omega arith in let last : n ≡ limit = omega (arith, r.within) in sym (r.same ∙ rw (e, last))
 
   module _ (more : n < limit) {x : Round} (is : x ≡ round_of o d p before.origins) {s : Bool} (test : s ≡ stops o d x) where
     one_more : settle limit o d p ≡ report (rounds (limit - (n + 1)) o d p (after s (lt x.change threshold) p n before x))

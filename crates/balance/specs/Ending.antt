@@ -4,8 +4,7 @@ use Prim.Native.Nat.{ℕ, zero, suc, ◌<◌}
 use Rattle.std.specs.Prelude.{◌≡◌}
 use Rattle.std.proofs.Math.Bool.{true, false}
 use Rattle.std.specs.Float.Ieee.{lt}
-use Rattle.balance_flows.specs.declared.Flows.{Flows}
-use Rattle.balance_flows.specs.declared.FlowTable.{FlowTable}
+use Rattle.balance_flows.specs.Flows.{Flows, FlowTable}
 use Rattle.balance_round.specs.declared.Round.{Round}
 use Rattle.balance_round.specs.Round.{round_of, stops}
 use Rattle.balance.specs.declared.Balance.{Balance}

@@ -3,9 +3,7 @@ use Rattle.std.specs.Prelude.{ℕ, zero, suc, ◌+◌, Bool, true, false, cond, 
 use Rattle.std.specs.Float.{binary64}
 use Rattle.std.specs.Float.Ieee.{of_bits, lt}
 use Rattle.movements.specs.PerMovement.{Counts, Seeds}
-use Rattle.balance_flows.specs.declared.Flows.{Flows}
-use Rattle.balance_flows.specs.declared.FlowTable.{FlowTable}
-use Rattle.balance_flows.specs.Flows.{zero64, times, flows_of, no_flows, no_table, table_finite}
+use Rattle.balance_flows.specs.Flows.{Flows, FlowTable, zero64, times, flows_of, no_flows, no_table, table_finite}
 use Rattle.balance_round.specs.declared.Round.{Round}
 use Rattle.balance_round.specs.Round.{round_of, stops}
 use Rattle.balance.specs.declared.Settling.{Settling}

@@ -3,14 +3,13 @@
 #![tactic(auto)]
 
 ghost use Rattle.std.specs.Prelude.{◌≡◌};
-ghost use Rattle.balance_flows.specs.Flows.{no_flows};
-ghost use Rattle.balance.specs.Settling.{round_limit, cell, cell_row, cells_of, unsettled, closed, start, settle, balanced};
+ghost use Rattle.balance.specs.Settling.{round_limit, cells_of, unsettled, closed, start, settle, balanced};
 
 use balance_flows::{FlowTable, Flows};
 use balance_round::Round;
 use movements::{Counts, Seeds};
 
-// The outcome with the last sum of differences reached.
+// The outcome with the last sum of differences reached, in the form of paper 01: unsettled is no error.
 #[derive(Clone, Copy)]
 pub enum Settling {
     Settled(f64),
@@ -30,60 +29,20 @@ const ROUND_LIMIT: u32 = 200;
 // A sum of differences below it settles.
 const THRESHOLD: f64 = 0.01;
 
-fn cell(oa: f64, b: f64, p: f64) -> f64
-    ensures { result ≡ cell oa b p }
-{
-    oa * b * p
-}
-
-#[tactic(auto, unfolding(crate::specs::Settling::cell_row))]
-fn cell_row(oa: f64, b: Flows, p: Flows) -> Flows
-    ensures { result ≡ cell_row oa b p }
-{
-    Flows {
-        left: cell(oa, b.left, p.left),
-        through: cell(oa, b.through, p.through),
-        right: cell(oa, b.right, p.right),
-        access: cell(oa, b.access, p.access),
-    }
-}
-
-#[tactic(auto, unfolding(crate::specs::Settling::cells_of))]
+#[tactic(auto, unfolding(crate::specs::Settling::cells_of, crate::specs::Settling::cell_row))]
 fn cells_of(origins: Flows, b: Flows, p: FlowTable) -> FlowTable
     ensures { result ≡ cells_of origins b p }
 {
-    FlowTable {
-        left: cell_row(origins.left, b, p.left),
-        through: cell_row(origins.through, b, p.through),
-        right: cell_row(origins.right, b, p.right),
-        access: cell_row(origins.access, b, p.access),
-    }
-}
-
-fn no_flows() -> Flows
-    ensures { result ≡ no_flows }
-{
-    Flows {
-        left: 0.0,
-        through: 0.0,
-        right: 0.0,
-        access: 0.0,
-    }
+    origins.zip_with(p, |oa, row| b.zip_with(row, |b, seed| oa * b * seed))
 }
 
 fn unsettled(sum: f64, rounds: u32) -> Balance
     ensures { result ≡ unsettled sum rounds }
 {
-    let none = no_flows();
     Balance {
         settling: Settling::Unsettled(sum),
         rounds,
-        cells: FlowTable {
-            left: none,
-            through: none,
-            right: none,
-            access: none,
-        },
+        cells: FlowTable::default(),
     }
 }
 
@@ -107,22 +66,18 @@ fn closed(cells: FlowTable, sum: f64, rounds: u32) -> Balance
 fn start(o: Flows) -> Round
     ensures { result ≡ start o }
 {
-    let none = no_flows();
     Round {
-        destinations: none,
-        ratios: none,
-        factors: none,
         origins: o,
-        change: 0.0,
+        ..Round::default()
     }
 }
 
+#[tactic(auto, using(crate::proofs::Rounds::stopped, crate::proofs::Rounds::closes, crate::proofs::Rounds::goes, crate::proofs::Rounds::spent))]
 fn settle(o: Flows, d: Flows, p: FlowTable) -> Balance
     ensures { result ≡ settle round_limit o d p }
 {
     let mut before = start(o);
-    let mut n: u32 = 0;
-    while n < ROUND_LIMIT {
+    for n in 0..ROUND_LIMIT {
         let round = balance_round::round_of(o, d, p, before.origins);
         if balance_round::stops(o, d, round) {
             return unsettled(before.change, n);
@@ -135,9 +90,8 @@ fn settle(o: Flows, d: Flows, p: FlowTable) -> Balance
             );
         }
         before = round;
-        n += 1;
     }
-    unsettled(before.change, n)
+    unsettled(before.change, ROUND_LIMIT)
 }
 
 // The settling of whole volumes: discharge of the entries, exit volumes, seeds in hundredths.

@@ -3,7 +3,7 @@ use Rattle.std.specs.Prelude.{ℕ, ◌||◌, not, Result, Ok, Err}
 use Rattle.refusal.specs.declared.Refusal.TheVariants.{NoVolume, Unserved}
 use Rattle.refusal.specs.Refusal.{need}
 use Rattle.movements.specs.PerMovement.{Counts, Seeds}
-use Rattle.balance_flows.specs.declared.FlowTable.{FlowTable}
+use Rattle.balance_flows.specs.Flows.{FlowTable}
 use Rattle.balance.specs.declared.Settling.{Settling}
 use Rattle.balance.specs.declared.Settling.TheVariants as settling
 use Rattle.balance.specs.declared.Balance.{Balance}

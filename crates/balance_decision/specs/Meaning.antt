@@ -7,7 +7,7 @@ use Rattle.refusal.specs.declared.Refusal.TheVariants.{NoVolume, Unserved}
 use Rattle.refusal.specs.Refusal.{Or, need, need_rest, ok_refused}
 use Rattle.movements.specs.PerMovement.{Counts, Seeds}
 use Rattle.movements.specs.Movements.{flow_units}
-use Rattle.balance_flows.specs.declared.FlowTable.{FlowTable}
+use Rattle.balance_flows.specs.Flows.{FlowTable}
 use Rattle.balance.specs.declared.Settling.{Settling}
 use Rattle.balance.specs.declared.Settling.TheVariants as settling
 use Rattle.balance.specs.declared.Balance.{Balance}

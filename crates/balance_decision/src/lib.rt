@@ -68,7 +68,7 @@ fn settled_to(o: Counts, b: Balance) -> Result<Decision, Unworked>
         Settling::Settled(sum) => Ok(Decision {
             sum,
             rounds: b.rounds,
-            pairs: pair_flows::from_rows(balance_pairs::pair_rows(b.cells, o)),
+            pairs: PairFlows::from(balance_pairs::pair_rows(b.cells, o)),
         }),
         Settling::Unsettled(sum) => Err(Unworked::Unsettled(sum)),
     }

@@ -3,8 +3,14 @@ use Rattle.std.specs.Prelude.{Bool, cond, ◌&&◌, Float}
 use Rattle.std.specs.Float.{binary64}
 use Rattle.std.specs.Float.Ieee.{of_bits, add, mul, div, eq}
 use Rattle.std.specs.Float.Ieee.Scale.{finite}
-use Rattle.balance_flows.specs.declared.Flows.{Flows}
-use Rattle.balance_flows.specs.declared.FlowTable.{FlowTable}
+use Rattle.movements.specs.declared.PerMovement.{PerMovement}
+
+-- one figure for each movement; a row of four exits for each entry
+abbrev pub Flows : Type 0
+Flows = PerMovement Float
+
+abbrev pub FlowTable : Type 0
+FlowTable = PerMovement Flows
 
 abbrev pub zero64 : Float
 zero64 = of_bits binary64 0

@@ -3,46 +3,28 @@
 #![tactic(auto)]
 
 ghost use Rattle.std.specs.Prelude.{◌≡◌};
-ghost use Rattle.std.specs.Float.Ieee.Scale.{finite};
 ghost use Rattle.balance_flows.specs.Flows.{all_finite, table_finite, total, quotient, quotients};
 
+use movements::PerMovement;
+
 // One figure for each movement: the paper's record of floats.
-#[derive(Clone, Copy)]
-pub struct Flows {
-    pub left: f64,
-    pub through: f64,
-    pub right: f64,
-    pub access: f64,
-}
+pub type Flows = PerMovement<f64>;
 
 // A row of four exits for each entry.
-#[derive(Clone, Copy)]
-pub struct FlowTable {
-    pub left: Flows,
-    pub through: Flows,
-    pub right: Flows,
-    pub access: Flows,
-}
+pub type FlowTable = PerMovement<Flows>;
 
-pub fn is_finite(x: f64) -> bool
-    ensures { result ≡ finite x }
-{
-    let infinity = 1.0 / 0.0;
-    (-infinity < x) & (x < infinity)
-}
-
-#[tactic(auto, unfolding(crate::specs::Flows::all_finite))]
+#[tactic(auto, unfolding(crate::specs::Flows::all_finite), using(crate::proofs::Finite::is_finite_is))]
 pub fn all_finite(x: Flows) -> bool
     ensures { result ≡ all_finite x }
 {
-    is_finite(x.left) & is_finite(x.through) & is_finite(x.right) & is_finite(x.access)
+    x.map(f64::is_finite).all()
 }
 
 #[tactic(auto, unfolding(crate::specs::Flows::table_finite))]
 pub fn table_finite(x: FlowTable) -> bool
     ensures { result ≡ table_finite x }
 {
-    all_finite(x.left) & all_finite(x.through) & all_finite(x.right) & all_finite(x.access)
+    x.map(all_finite).all()
 }
 
 pub fn total(x: Flows) -> f64
@@ -61,10 +43,5 @@ fn quotient(n: f64, m: f64) -> f64
 pub fn quotients(n: Flows, m: Flows) -> Flows
     ensures { result ≡ quotients n m }
 {
-    Flows {
-        left: quotient(n.left, m.left),
-        through: quotient(n.through, m.through),
-        right: quotient(n.right, m.right),
-        access: quotient(n.access, m.access),
-    }
+    n.zip_with(m, quotient)
 }

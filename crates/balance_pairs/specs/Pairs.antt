@@ -8,9 +8,7 @@ use Rattle.limits.specs.Limits.{entry_limit}
 use Rattle.lists.specs.Lists.{sum}
 use Rattle.movements.specs.PerMovement.{Counts}
 use Rattle.movements.specs.Movements.{flow_units}
-use Rattle.balance_flows.specs.declared.Flows.{Flows}
-use Rattle.balance_flows.specs.declared.FlowTable.{FlowTable}
-use Rattle.balance_flows.specs.Flows.{times}
+use Rattle.balance_flows.specs.Flows.{Flows, FlowTable, times}
 
 -- no entry discharges more than its limit
 abbrev pub WithinLimit : Counts → Type 0

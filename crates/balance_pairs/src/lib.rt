@@ -1,5 +1,6 @@
 // The pair flows of each entry: what its discharge sends to each exit.
 // A lower layer's crate: `pair_rows` asks that no entry discharges more than 6000 veh/h.
+// `WithinLimit` is a clause and no type of its own: to the refusals and the settling the same volumes are plain counts.
 #![tactic(auto)]
 
 ghost use Rattle.std.specs.Prelude.{◌≡◌, ◌≤◌};
@@ -9,21 +10,11 @@ use balance_flows::{FlowTable, Flows};
 use movements::Counts;
 
 // The whole part of cell·1000, or what is left of the row if that is less.
+#[tactic(auto, unfolding(crate::specs::Pairs::cell_units), using(crate::proofs::Limit::capped))]
 fn cell_units(cell: f64, left: u32) -> u32
     ensures { (result ≡ cell_units cell left) × (result ≤ left) }
 {
-    let x = cell * 1000.0;
-    if x > -1.0 {
-        if x < 18446744073709551616.0 {
-            let whole = std::num::truncating_f64_to_u64(x);
-            if whole < (left as u64) {
-                return whole as u32;
-            }
-            return left;
-        }
-        return left;
-    }
-    0
+    std::num::saturating_f64_to_u32(cell * 1000.0).min(left)
 }
 
 fn pair_row(cells: Flows, all: u32) -> [u32; 4]
@@ -37,7 +28,7 @@ fn pair_row(cells: Flows, all: u32) -> [u32; 4]
     [left, after_right - access, right, access]
 }
 
-// Filled row by row.
+// Filled row by row, as paper 01 has the sixteen numbers.
 #[tactic(auto, unfolding(crate::specs::Pairs::pair_rows))]
 pub fn pair_rows(cells: FlowTable, o: Counts) -> [[u32; 4]; 4]
     requires { WithinLimit o }

@@ -3,9 +3,7 @@ use Rattle.std.specs.Prelude.{Bool, cond, ◌&&◌, ◌||◌, not, Float}
 use Rattle.std.specs.Float.{binary64}
 use Rattle.std.specs.Float.Ieee.{sub, lt, eq}
 use Rattle.std.specs.Float.Ieee.Scale.{finite}
-use Rattle.balance_flows.specs.declared.Flows.{Flows}
-use Rattle.balance_flows.specs.declared.FlowTable.{FlowTable}
-use Rattle.balance_flows.specs.Flows.{zero64, all_finite, flows_of, total, weighted, quotients}
+use Rattle.balance_flows.specs.Flows.{Flows, FlowTable, zero64, all_finite, flows_of, total, weighted, quotients}
 use Rattle.balance_round.specs.declared.Round.{Round}
 
 -- one exit's seeds, by entry

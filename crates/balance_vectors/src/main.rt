@@ -125,7 +125,7 @@ fn answer_differs(s: &[u8], o: Counts, exits: Counts, seeds: Seeds) -> bool
     let x = balance_decision::decide(o, exits, seeds);
     let outcome = x.outcome;
     (octets::word4_at(s, 48) != balance_decision::refusal_of(outcome))
-        | vectors::rows_differ(s, 196, pair_flows::rows_of(x.pairs))
+        | vectors::rows_differ(s, 196, x.pairs.into())
         | decision_differs(s, outcome, x.rounds, balance::balanced(o, exits, seeds))
 }
 

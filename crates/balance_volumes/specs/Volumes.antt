@@ -3,9 +3,7 @@ use Rattle.std.specs.Prelude.{ℕ, pos, Float, ◌≡◌, refl}
 use Rattle.std.specs.Float.{binary64}
 use Rattle.std.specs.Float.Ieee.{of_bits, of_int}
 use Rattle.movements.specs.PerMovement.{Counts, Seeds}
-use Rattle.balance_flows.specs.declared.Flows.{Flows}
-use Rattle.balance_flows.specs.declared.FlowTable.{FlowTable}
-use Rattle.balance_flows.specs.Flows.{times, over, flows_of, total}
+use Rattle.balance_flows.specs.Flows.{Flows, FlowTable, times, over, flows_of, total}
 
 -- O as a float; an exit volume as a float
 abbrev pub discharge_float : ℕ → Float

@@ -44,7 +44,7 @@ module _ {running : ℕ} {q : List ℕ} {n : ℕ} {f₀ g₀ f g : List ℕ} {s 
       rw (← is) (sym (same ∙ next_state))
 
   -- one more where it rests: any number from there on leaves the same
-  pub turn_needed : Enough (λ m. cycles_worked running q m f₀ g₀) n needed k needed'
+  turn_needed : Enough (λ m. cycles_worked running q m f₀ g₀) n needed k needed'
   turn_needed =
       next_needed (λ m. cycles_worked running q m f₀ g₀) 1 more (omega arith) r.enough
       (λ same less.

@@ -42,7 +42,7 @@ module _ {running : ℕ} {q : List ℕ} {n : ℕ} {p₀ p : List ℕ} {s : Plato
   rests same = rw (← r.state) (sym (same ∙ e))
 
   -- none more where it rests: the reported cycle stays the same
-  pub last_needed : Enough (reported running q) n needed k needed'
+  last_needed : Enough (reported running q) n needed k needed'
   last_needed =
       next_needed (reported running q) 0 more (omega arith) r.enough
       (λ same less.

@@ -12,7 +12,7 @@ ghost use Rattle.dispersion.specs.Rest.{needed_of};
 const SMOOTHING: u64 = 500000;
 
 // The segment after a step: the arrival, which is the level of the next step, and the remainder carried on.
-#[derive(Clone, Copy)]
+#[derive(Clone, Copy, PartialEq)]
 pub struct PlatoonState {
     pub level: u32,
     pub carry: u32,
@@ -23,7 +23,7 @@ pub struct PlatoonState {
 fn divisor(running: u32) -> u64
     ensures { result ≡ divisor_of running }
 {
-    657500 + 69 * (running as u64)
+    657500 + 69 * u64::from(running)
 }
 
 // The platoon arrival time in steps (t' of the paper), to the nearest, halves up.
@@ -31,7 +31,7 @@ fn divisor(running: u32) -> u64
 pub fn arrival_time(running: u32) -> u32
     ensures { result ≡ arrival_time_of running }
 {
-    ((862 * (running as u64) + 435000) / 1000000) as u32
+    ((862 * u64::from(running) + 435000) / 1000000) as u32
 }
 
 // One step.
@@ -41,9 +41,9 @@ fn step(running: u32, discharge: u32, state: PlatoonState) -> PlatoonState
     ensures { result ≡ step_of running discharge state }
 {
     let d = divisor(running);
-    let made = SMOOTHING * (discharge as u64)
-        + (d - SMOOTHING) * (state.level as u64)
-        + (state.carry as u64);
+    let made = SMOOTHING * u64::from(discharge)
+        + (d - SMOOTHING) * u64::from(state.level)
+        + u64::from(state.carry);
     PlatoonState {
         level: (made / d) as u32,
         carry: (made % d) as u32,
@@ -64,12 +64,9 @@ fn disperse(
     ensures profile_after { profile.new ≡ cycle_written running discharge.now from profile.old }
 {
     let mut state = from;
-    let mut i = 0;
-    while i < discharge.len() {
-        let q = discharge[i];
-        state = step(running, q, state);
+    for (i, q) in discharge.iter().enumerate() {
+        state = step(running, *q, state);
         profile[i] = state.level;
-        i += 1;
     }
     state
 }
@@ -108,7 +105,7 @@ fn cycles_needed(
     requires { others ≤ 1 }
     ensures { result ≡ needed_of worked others cycles before after }
 {
-    if worked < cycles && before.level == after.level && before.carry == after.carry {
+    if worked < cycles && before == after {
         return worked + others;
     }
     cycles
@@ -131,11 +128,12 @@ pub fn alternate(
 {
     let mut state = PlatoonState { level: 0, carry: 0 };
     let mut needed = cycles;
-    let mut k: u32 = 0;
-    while k < needed {
+    for k in 0..cycles {
+        if k == needed {
+            return state;
+        }
         let next = work_cycle(running, discharge, first, second, k, state);
-        k += 1;
-        needed = cycles_needed(k, 1, needed, state, next);
+        needed = cycles_needed(k + 1, 1, needed, state, next);
         state = next;
     }
     state
@@ -151,11 +149,12 @@ pub fn disperse_last(running: u32, discharge: &[u32], profile: &mut [u32], cycle
 {
     let mut state = PlatoonState { level: 0, carry: 0 };
     let mut needed = cycles;
-    let mut k: u32 = 0;
-    while k < needed {
+    for k in 0..cycles {
+        if k == needed {
+            return;
+        }
         let next = disperse(running, discharge, profile, state);
-        k += 1;
-        needed = cycles_needed(k, 0, needed, state, next);
+        needed = cycles_needed(k + 1, 0, needed, state, next);
         state = next;
     }
 }

@@ -1,5 +1,5 @@
 -- Laws of specs/Laws.antt.
-use Rattle.std.specs.Prelude.{ℕ, ◌+◌, ◌*◌, ◌/◌, ◌≤◌, ◌<◌, Bool, true, false, cond, [], eqb}
+use Rattle.std.specs.Prelude.{ℕ, ◌+◌, ◌*◌, ◌/◌, ◌≤◌, ◌<◌, Bool, true, false, cond, eqb}
 use Rattle.std.proofs.Common.{arith, div-mul-le_self, mod-lt, ne_eqb}
 use Rattle.std.proofs.Math.Nat.{div-add-mod}
 use Rattle.exit_figures.specs.ExitFigures.{permille_of}

@@ -25,13 +25,7 @@ pub fn total(run: &[u32]) -> u64
     requires { length run.now < step_bound }
     ensures { result ≡ sum run.now }
 {
-    let mut all: u64 = 0;
-    let mut i = 0;
-    while i < run.len() {
-        all += run[i] as u64;
-        i += 1;
-    }
-    all
+    run.iter().map(|flow| u64::from(*flow)).sum()
 }
 
 fn green_flow(green: Green, run: &[u32]) -> u64
@@ -40,12 +34,10 @@ fn green_flow(green: Green, run: &[u32]) -> u64
 {
     let c = run.len() as u32;
     let mut arrived: u64 = 0;
-    let mut k = 0;
-    while k < run.len() {
+    for (k, flow) in run.iter().enumerate() {
         if signal::in_green(c, green, signal::step_at(k)) {
-            arrived += run[k] as u64;
+            arrived += u64::from(*flow);
         }
-        k += 1;
     }
     arrived
 }
@@ -79,20 +71,12 @@ pub fn figures(green: Green, run: &[u32]) -> ExitFigures
 fn is_blocked(flow: u32, headway: u32) -> bool
     ensures { result ≡ blocked flow headway }
 {
-    CRITICAL_PRODUCT < (flow as u64) * (headway as u64)
+    CRITICAL_PRODUCT < u64::from(flow) * u64::from(headway)
 }
 
 pub fn blocked_steps(headway: u32, run: &[u32]) -> u32
     requires { length run.now < step_bound }
     ensures { result ≡ blocked_steps headway run.now }
 {
-    let mut n: u32 = 0;
-    let mut at = 0;
-    while at < run.len() {
-        if is_blocked(run[at], headway) {
-            n += 1;
-        }
-        at += 1;
-    }
-    n
+    run.iter().filter(|flow| is_blocked(**flow, headway)).count() as u32
 }

@@ -11,15 +11,18 @@ pub struct PairFlows {
     pub rows: [[u32; 4]; 4],
 }
 
-// The only two functions that reach the field.
-pub fn from_rows(g: [[u32; 4]; 4]) -> PairFlows
-    ensures { result ≡ pair_flows g }
-{
-    PairFlows { rows: g }
+impl From<[[u32; 4]; 4]> for PairFlows {
+    ghost from_gives = { λ rows x. x ≡ pair_flows rows };
+
+    fn from(rows: [[u32; 4]; 4]) -> PairFlows {
+        PairFlows { rows }
+    }
 }
 
-pub fn rows_of(x: PairFlows) -> [[u32; 4]; 4]
-    ensures { result ≡ rows_of x }
-{
-    x.rows
+impl From<PairFlows> for [[u32; 4]; 4] {
+    ghost from_gives = { λ x rows. rows ≡ rows_of x };
+
+    fn from(x: PairFlows) -> [[u32; 4]; 4] {
+        x.rows
+    }
 }

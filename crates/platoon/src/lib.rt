@@ -29,16 +29,10 @@ pub struct Served {
 fn serve(queue: u64, rate: u32) -> Served
     ensures { result ≡ served_of queue rate }
 {
-    let most = rate as u64;
-    if queue < most {
-        return Served {
-            flow: queue as u32,
-            waiting: 0,
-        };
-    }
+    let flow = queue.min(u64::from(rate));
     Served {
-        flow: rate,
-        waiting: queue - most,
+        flow: flow as u32,
+        waiting: queue - flow,
     }
 }
 
@@ -47,7 +41,7 @@ fn arrived(gone: u32, arriving: u64, g: u32) -> u64
     requires { (gone < g) × (g < step_bound) × (arriving ≤ cycle_bound) }
     ensures { result ≡ (gone + 1) * arriving / g }
 {
-    ((gone + 1) as u64) * arriving / (g as u64)
+    u64::from(gone + 1) * arriving / u64::from(g)
 }
 
 // Serves the queue step by step of the green, into an empty cycle.
@@ -61,25 +55,28 @@ fn release(green: Green, queue: Queue, run: &mut [u32])
     let g = green.steps;
     let mut waiting = queue.waiting;
     let mut passed: u64 = 0;
-    let mut gone: u32 = 0;
-    while gone < g {
+    for gone in 0..g {
         let reached = arrived(gone, queue.arriving, g);
         let step = serve(waiting + (reached - passed), queue.rate);
         let at = signal::index(signal::green_step(c, green, gone + 1));
         run[at] += step.flow;
         waiting = step.waiting;
         passed = reached;
-        gone += 1;
     }
 }
 
 // The queue of a cycle of c steps at a discharge volume: what does not arrive on green waits when green starts.
+#[tactic(auto, unfolding(
+    crate::specs::Discharge::queue_of,
+    crate::specs::Discharge::carried,
+    crate::specs::Discharge::green_arrivals
+))]
 fn queue_of(c: u32, saturation: u32, arriving: u32, volume: u32) -> Queue
     requires { (c < step_bound) × (saturation ≤ flow_limit) × (arriving ≤ most_arriving) × (volume ≤ entry_limit) }
     ensures { result ≡ queue_of c saturation arriving volume }
 {
-    let all = (flow_units(volume) as u64) * (c as u64);
-    let on_green = all * (arriving as u64) / 1000;
+    let all = u64::from(flow_units(volume)) * u64::from(c);
+    let on_green = all * u64::from(arriving) / 1000;
     Queue {
         waiting: all - on_green,
         arriving: on_green,

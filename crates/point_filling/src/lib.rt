@@ -54,14 +54,11 @@ fn fill_each(
     ensures value { result ≡ point_counts s (given points) }
 {
     let c = s.cycle as usize;
-    let at = points.at;
     let n = points.count as usize;
     let mut blocked = [0u32; points::POINT_ROOM];
-    let mut i: usize = 0;
-    while i < n {
-        let from = i * c;
-        blocked[i] = fill_point(s, at[i], discharges, &mut out[from..from + c]);
-        i += 1;
+    for (i, p) in points.at[0..n].iter().enumerate() {
+        let at = i * c;
+        blocked[i] = fill_point(s, *p, discharges, &mut out[at..at + c]);
     }
     blocked
 }

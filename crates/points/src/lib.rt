@@ -41,14 +41,6 @@ pub fn all_fit(farthest: u32, points: Points) -> bool
     requires { points.count ≤ most_points }
     ensures { result ≡ all_fit farthest (given points) }
 {
-    let at = points.at;
     let n = points.count as usize;
-    let mut i: usize = 0;
-    while i < n {
-        if !point_fits(farthest, at[i]) {
-            return false;
-        }
-        i += 1;
-    }
-    true
+    points.at[0..n].iter().all(|p| point_fits(farthest, *p))
 }

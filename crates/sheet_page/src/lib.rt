@@ -95,7 +95,7 @@ fn head_lines(text: &mut [u8], at: usize, number: u32, cycle: u32, w: Working) -
     ensures { Wrote text.old at (lines (head_lines number cycle w)) text.new result }
 {
     let p = record_line(text, at, number, cycle, w);
-    let p = pair_lines(text, p, pair_flows::rows_of(w.pairs));
+    let p = pair_lines(text, p, w.pairs.into());
     exit_lines(text, p, w)
 }
 

@@ -8,8 +8,7 @@ use Rattle.movements.specs.PerMovement.{Counts}
 use Rattle.movements.specs.Movements.{flow_units}
 use Rattle.segment.specs.declared.Segment.{Segment}
 use Rattle.ranges.specs.Ranges.{Ranges}
-use Rattle.balance_flows.specs.declared.Flows.{Flows}
-use Rattle.balance_flows.specs.declared.FlowTable.{FlowTable}
+use Rattle.balance_flows.specs.Flows.{Flows, FlowTable}
 use Rattle.metering.specs.Metering.{discharge_volumes, discharge_units}
 use Rattle.balance_pairs.specs.Pairs.{pair_row, pair_rows, row_adds_lem}
 use Rattle.balance_decision.specs.declared.Decision.{Decision}

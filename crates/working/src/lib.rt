@@ -48,7 +48,7 @@ pub fn fill(
     propagation::fill(
         s,
         metering::discharge_volumes(s),
-        pair_flows::rows_of(decision.pairs),
+        decision.pairs.into(),
         output,
         first,
         second,

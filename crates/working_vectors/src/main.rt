@@ -41,7 +41,7 @@ fn answer_differs(expected: &[u8], answer: Working) -> bool
     outcome_differs(expected, outcome)
         | (octets::word4_at(expected, 12) != answer.arrival)
         | (octets::word4_at(expected, 16) != answer.rounds)
-        | vectors::rows_differ(expected, 20, pair_flows::rows_of(answer.pairs))
+        | vectors::rows_differ(expected, 20, answer.pairs.into())
         | figures_differ(expected, 84, answer.left)
         | figures_differ(expected, 104, answer.through)
         | figures_differ(expected, 124, answer.right)

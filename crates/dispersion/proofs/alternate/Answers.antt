@@ -1,18 +1,16 @@
 use Rattle.std.proofs.Common.{arith}
-use Rattle.dispersion.proofs.Alternating.{alternate_start, turn_needed, turn, alternate_done}
+use Rattle.dispersion.proofs.Alternating.{alternate_start, turn, alternate_done}
 use Rattle.dispersion.proofs.alternate.Goals as goal
 
 pub loop-k-init : goal.loop-k-init
 loop-k-init c = alternate_start _ _ _ _ _
 
-pub loop-k-smaller : goal.loop-k-smaller
-loop-k-smaller c =
-    let fewer = turn_needed c.loop-k.invariant c.loop-k-test.true _ _ _ _ c.work_cycle-next.ensures c.cycles_needed-needed.ensures in
-    omega (arith, fewer.some, fewer.fewer)
-
 pub loop-k-preserved : goal.loop-k-preserved
 loop-k-preserved c =
-    turn c.loop-k.invariant c.loop-k-test.true _ _ _ _ c.work_cycle-next.ensures c.cycles_needed-needed.ensures c.work_cycle-next.auto.first c.work_cycle-next.auto.second
+    turn c.loop-k.invariant (omega arith) _ _ _ _ c.work_cycle-next.ensures c.cycles_needed-needed.ensures c.work_cycle-next.auto.first c.work_cycle-next.auto.second
+
+pub returns-then-k-needed : goal.returns-then-k-needed
+returns-then-k-needed c = alternate_done c.loop-k.invariant (omega arith)
 
 pub returns : goal.returns
-returns c = alternate_done c.loop-k.invariant c.loop-k-test.false
+returns c = alternate_done c.loop-k.invariant (omega arith)

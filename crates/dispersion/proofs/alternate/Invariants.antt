@@ -1,10 +1,6 @@
--- k cycles are worked, and those that need working leave what all do; the cycles needed and not worked fall.
-use Rattle.std.proofs.Common.{◌-◌}
+-- k cycles are worked, and those that need working leave what all do.
 use Rattle.dispersion.proofs.Alternating.{Alternating}
 use Rattle.dispersion.proofs.alternate.Given as goal
 
 abbrev pub invariant-loop-k : goal.invariant-loop-k
 invariant-loop-k l = Alternating l.running l.discharge l.cycles l.initial.first l.initial.second l.first l.second l.state l.needed l.k
-
-abbrev pub decreases-loop-k : goal.decreases-loop-k
-decreases-loop-k l = l.needed - l.k

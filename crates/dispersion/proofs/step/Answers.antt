@@ -11,23 +11,23 @@ overflow_sub-made c =
 
 pub overflow_mul-made-2 : goal.overflow_mul-made-2
 overflow_mul-made-2 c =
-    let s = step_numbers 500000 c.args.running _ c.args.discharge c.args.state.level c.args.state.carry (omega arith) c.divisor-d.ensures
+    let s = step_numbers 500000 c.args.running _ c.from.result c.from-2.result c.args.state.carry (omega arith) c.divisor-d.ensures
     c.requires.running_le_most_running (omega arith) (omega arith) c.requires.carry_bound in record { fits = level_made s }
 
 pub overflow_add-made : goal.overflow_add-made
 overflow_add-made c =
-    let s = step_numbers 500000 c.args.running _ c.args.discharge c.args.state.level c.args.state.carry (omega arith) c.divisor-d.ensures
+    let s = step_numbers 500000 c.args.running _ c.from.result c.from-2.result c.args.state.carry (omega arith) c.divisor-d.ensures
     c.requires.running_le_most_running (omega arith) (omega arith) c.requires.carry_bound in record { fits = both_made s }
 
 pub overflow_add-made-2 : goal.overflow_add-made-2
 overflow_add-made-2 c =
-    let s = step_numbers 500000 c.args.running _ c.args.discharge c.args.state.level c.args.state.carry (omega arith) c.divisor-d.ensures
-    c.requires.running_le_most_running (omega arith) (omega arith) c.requires.carry_bound in record { fits = all_made s c.args.state.carry (omega arith) }
+    let s = step_numbers 500000 c.args.running _ c.from.result c.from-2.result c.from-3.result (omega arith) c.divisor-d.ensures
+    c.requires.running_le_most_running (omega arith) (omega arith) (rw c.from-3.ensures c.requires.carry_bound) in record { fits = all_made s c.from-3.result (omega arith) }
 
 pub overflow_cast-result : goal.overflow_cast-result
 overflow_cast-result c =
-    let s = step_numbers 500000 c.args.running _ c.args.discharge c.args.state.level c.args.state.carry (omega arith) c.divisor-d.ensures
-    c.requires.running_le_most_running (omega arith) (omega arith) c.requires.carry_bound in record { fits = arrival_lt s }
+    let s = step_numbers 500000 c.args.running _ c.from.result c.from-2.result c.from-3.result (omega arith) c.divisor-d.ensures
+    c.requires.running_le_most_running (omega arith) (omega arith) (rw c.from-3.ensures c.requires.carry_bound) in record { fits = arrival_lt s }
 
 pub overflow_cast-result-2 : goal.overflow_cast-result-2
 overflow_cast-result-2 c =
@@ -36,4 +36,4 @@ overflow_cast-result-2 c =
 
 pub returns : goal.returns
 unfolding step_of
-returns c = rw c.divisor-d.ensures
+returns c = rw (c.divisor-d.ensures, c.from.ensures, c.from-2.ensures, c.from-3.ensures)

@@ -1,18 +1,13 @@
-use Rattle.std.proofs.Common.{arith, true, false, sym, ◌∙◌}
-use Rattle.exit_figures.proofs.Sums.{count_start, count_turn, count_done}
+-- The iterator's count of the steps that the test finds blocked is the specs' number of them.
+use Rattle.std.proofs.Common.{cond, ◌≡◌, refl, sym, ◌∙◌, rules}
+use Rattle.std.proofs.lemmas.List.Recursion.{is_sum_by}
+use Rattle.std.specs.Prelude.{count_by}
+use Rattle.exit_figures.specs.ExitFigures.{blocked, blocked_steps}
 use Rattle.exit_figures.proofs.blocked_steps.Goals as goal
-use Rattle.exit_figures.proofs.blocked_steps.Goals.{then-is_blocked, else-is_blocked}
-
-pub loop-at-init : goal.loop-at-init
-loop-at-init c = count_start _ _
-
-pub loop-at-preserved : goal.loop-at-preserved
-loop-at-preserved c =
-    let e = sym c.is_blocked.ensures in
-    elim c.if-is_blocked.branch [
-      | then-is_blocked w ↦ count_turn c.loop-at.invariant (omega arith) true (e ∙ w.if-is_blocked.true) _ (omega arith)
-      | else-is_blocked w ↦ count_turn c.loop-at.invariant (omega arith) false (e ∙ w.if-is_blocked.false) _ (omega arith)
-    ]
 
 pub returns : goal.returns
-returns c = count_done c.loop-at.invariant c.loop-at-test.false
+unfolding blocked_steps
+returns c =
+    let h = c.args.headway in
+    let counted : c.count.result ≡ count_by (λ flow. blocked flow h) c.args.run.now = search rules in
+    counted ∙ sym (is_sum_by (blocked_steps h) (λ flow. cond (blocked flow h) 1 0) refl (λ flow run. refl) c.args.run.now)

@@ -12,7 +12,7 @@ loop-k-preserved c =
     let e = sym c.in_green.ensures in
     let s = c.step_at.ensures in
     elim c.if-in_green.branch [
-      | then-in_green w ↦ green_turn _ c.args.run.now c.loop-k.invariant (omega arith) s (e ∙ w.if-in_green.true) w.arrived-is (c.type_inv.run _).fits
+      | then-in_green w ↦ green_turn _ c.args.run.now c.loop-k.invariant (omega arith) s (e ∙ w.if-in_green.true) (omega arith) (c.type_inv.run _).fits
       | else-in_green w ↦ green_turn _ c.args.run.now c.loop-k.invariant (omega arith) s (e ∙ w.if-in_green.false) (omega arith) (omega arith)
     ]
 

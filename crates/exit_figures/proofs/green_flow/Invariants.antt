@@ -1,11 +1,8 @@
--- What the green steps gone brought, the rest to come; the steps left fall.
-use Rattle.std.proofs.Common.{length, ◌-◌}
+-- What the green steps gone brought, the rest to come.
+use Rattle.std.proofs.Common.{length}
 use Rattle.exit_figures.specs.Laws.{green_number}
 use Rattle.exit_figures.proofs.Sums.{Tallied}
 use Rattle.exit_figures.proofs.green_flow.Given as goal
 
 abbrev pub invariant-loop-k : goal.invariant-loop-k
 invariant-loop-k l = Tallied (green_number l.green l.run) (length l.run) l.arrived l.k
-
-abbrev pub decreases-loop-k : goal.decreases-loop-k
-decreases-loop-k l = length l.run - l.k

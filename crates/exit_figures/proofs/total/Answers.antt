@@ -1,13 +1,12 @@
-use Rattle.std.proofs.Common.{arith, sym, ap, ◌∙◌}
-use Rattle.lists.specs.Lists.{sum, run_tab}
-use Rattle.exit_figures.proofs.Sums.{tally_start, total_turn, tally_done}
+-- The iterator's sum is the specs' sum.
+use Rattle.std.proofs.Common.{◌≡◌, refl, sym, ◌∙◌, rules}
+use Rattle.std.proofs.lemmas.List.Recursion.{is_sum_by}
+use Rattle.std.specs.List as list
+use Rattle.lists.specs.Lists.{sum}
 use Rattle.exit_figures.proofs.total.Goals as goal
 
-pub loop-i-init : goal.loop-i-init
-loop-i-init c = tally_start _ _
-
-pub loop-i-preserved : goal.loop-i-preserved
-loop-i-preserved c = total_turn c.args.run.now c.loop-i.invariant (omega arith) (c.type_inv.run _).fits
-
 pub returns : goal.returns
-returns c = tally_done c.loop-i.invariant c.loop-i-test.false ∙ sym (ap sum (run_tab _))
+unfolding sum
+returns c =
+    let added : c.sum.result ≡ list.sum c.args.run.now = search rules in
+    added ∙ sym (is_sum_by sum (λ flow. flow) refl (λ flow run. refl) c.args.run.now)

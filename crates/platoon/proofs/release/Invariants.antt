@@ -1,10 +1,6 @@
--- The loop keeps Serving: the steps gone are served, and what the steps left add makes the green's whole discharge; the steps left fall.
-use Rattle.std.proofs.Common.{◌-◌}
+-- The loop keeps Serving: the steps gone are served, and what the steps left add makes the green's whole discharge.
 use Rattle.platoon.proofs.Serving.{Serving}
 use Rattle.platoon.proofs.release.Given as goal
 
 abbrev pub invariant-loop-gone : goal.invariant-loop-gone
 invariant-loop-gone l = Serving l.green l.queue l.initial.run l.run l.waiting l.passed l.gone
-
-abbrev pub decreases-loop-gone : goal.decreases-loop-gone
-decreases-loop-gone l = l.g - l.gone

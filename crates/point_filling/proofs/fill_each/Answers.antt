@@ -1,29 +1,30 @@
 -- A point's run and count are worked where its place stands in the profile; at the end all are.
-use Rattle.std.proofs.Common.{rules, arith}
+use Rattle.std.proofs.Common.{rules}
+use Rattle.std.proofs.Math.Nat.{sub-zero}
 use Rattle.points.specs.Points.{given}
-use Rattle.point_filling.proofs.Filling.{filling_start, filling_fits, filling_turn, filling_runs, filling_counts}
+use Rattle.point_filling.proofs.Filling.{filling_start, filling_fits, filling_turn, filling_runs, filling_counts, given_few, given_room}
 use Rattle.point_filling.proofs.fill_each.Goals as goal
 
 pub loop-i-init : goal.loop-i-init
-loop-i-init c = filling_start _ _ _ _ c.requires.fill.few
+loop-i-init c = filling_start _ _ _ (given_few c.requires.fill (search rules))
 
 pub fill_point-requires : goal.fill_point-requires
 unfolding given
 fill_point-requires c =
-    filling_fits c.loop-i.invariant (search rules) c.loop-i-test.true _ (omega (arith, c.requires.fill.room)) c.requires.discharged
-    c.requires.fill.fit
+    filling_fits c.loop-i.invariant c.loop-i-test.true _ (given_room c.requires.fill (search rules)) c.requires.discharged
+    (rw sub-zero c.requires.fill.fit)
 
 pub loop-i-preserved : goal.loop-i-preserved
 loop-i-preserved c =
     let f = c.fill_point in
-    filling_turn c.loop-i.invariant (search rules) c.loop-i-test.true _ (omega (arith, c.requires.fill.room)) f.new.run f.auto.run
+    filling_turn c.loop-i.invariant c.loop-i-test.true _ (given_room c.requires.fill (search rules)) f.new.run f.auto.run
     f.ensures.run_after f.ensures.value
 
 pub returns : goal.returns
 unfolding given
 returns c =
     let inv = c.loop-i.invariant in
-    record {
-      out_after = filling_runs inv (search rules) c.loop-i-test.false;
-      value = filling_counts inv (search rules) c.loop-i-test.false;
-    }
+    rw (← (sub-zero c.args.points.count)) (record {
+      out_after = filling_runs inv c.loop-i-test.false;
+      value = filling_counts inv c.loop-i-test.false;
+    })

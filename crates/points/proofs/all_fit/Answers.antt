@@ -1,17 +1,16 @@
--- The first point that does not fit decides; where none is, all fit.
-use Rattle.std.proofs.Common.{rules}
-use Rattle.points.specs.Points.{given}
-use Rattle.points.proofs.Fitting.{fit_on, fit_not, fit_end}
+-- The test of each of them in turn.
+use Rattle.std.proofs.Common.{rules, take, ◌-◌}
+use Rattle.std.proofs.Math.Nat.{sub-zero}
+use Rattle.std.proofs.lemmas.Iterator.Search.{all_from_yields_List}
+use Rattle.std.proofs.lemmas.Iterator.{YieldsList-from_slice}
+use Rattle.points.specs.Points.{given, point_fits}
+use Rattle.points.proofs.Fitting.{all_fit_list}
 use Rattle.points.proofs.all_fit.Goals as goal
-
-pub returns-then-not-point_fits : goal.returns-then-not-point_fits
-unfolding given
-returns-then-not-point_fits c =
-    fit_not c.loop-i.invariant (search rules) c.loop-i-test.true _ c.point_fits.ensures c.if-not-point_fits.true
-
-pub loop-i-preserved : goal.loop-i-preserved
-loop-i-preserved c = fit_on c.loop-i.invariant (search rules) c.loop-i-test.true _ c.point_fits.ensures c.if-not-point_fits.false
 
 pub returns : goal.returns
 unfolding given
-returns c = fit_end c.loop-i.invariant (search rules) c.loop-i-test.false
+returns c =
+    let ps = c.args.points in
+    rw (all_fit_list, ← (sub-zero ps.count))
+    (all_from_yields_List (point_fits c.args.farthest) _ _ _ c.all.ensures.ran (YieldsList-from_slice (take (ps.count - 0) ps.at) cc)
+    (λ x b q k. search rules))

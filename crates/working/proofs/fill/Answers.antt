@@ -4,7 +4,7 @@ use Rattle.working.proofs.Deciding.{fill_asks, filled}
 use Rattle.working.proofs.fill.Goals as goal
 
 pub fill-requires : goal.fill-requires
-fill-requires c = fill_asks c.requires c.rows_of.ensures c.discharge_volumes.ensures
+fill-requires c = fill_asks c.requires c.into.ensures c.discharge_volumes.ensures
 
 pub worked-requires : goal.worked-requires
-worked-requires c = filled c.requires c.rows_of.ensures (profiles _ _ _) c.fill.ensures
+worked-requires c = filled c.requires c.into.ensures (profiles _ _ _) c.fill.ensures
