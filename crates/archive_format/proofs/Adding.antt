@@ -67,7 +67,7 @@ module _ (e : Edition) (l b t new : List ℕ) (fs : List Filed) (old : decode e 
   still_absent : (n : ℕ) → (word4 b 0 ≡ n → ⊥) → find_of e l n ≡ Err Record → find_of e new n ≡ Err Record
   unfolding lookup
   still_absent n other gone =
-      find_absent e new (fs ++ single b t) n 6 more (lookup_after fs (single b t) n 6 (absent_is e l fs n 6 old gone) ∙ rw (ne_eqb _ _ other))
+      find_absent e new (fs ++ single b t) n Record more (lookup_after fs (single b t) n Record (absent_is e l fs n Record old gone) ∙ rw (ne_eqb _ _ other))
 
   place_kept : (i p : ℕ) → place_of e l i ≡ Ok p → place_of e new i ≡ Ok p
   unfolding place_of

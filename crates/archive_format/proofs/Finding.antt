@@ -1,10 +1,11 @@
 -- Laws of specs/Finding.antt: What finding means: the place found holds the record with the number, and its title is that record's.
 use Rattle.std.specs.Prelude.{ℕ, zero, suc, ◌+◌, ◌≤◌, ◌<◌, ◌≡◌, refl, Bool, true, false, cond, List, [], ◌∷◌, ◌++◌, eqb, ltb, length, get_or, Ok, Err}
 use Rattle.std.proofs.Common.{arith, ap, ◌∙◌, eqb-true, ne_eqb}
+use Rattle.refusal.specs.declared.Refusal.{Refusal}
 use Rattle.refusal.specs.declared.Refusal.TheVariants.{Record}
 use Rattle.refusal.specs.Refusal.{Or, and_then, both, false_true}
 use Rattle.archive_format.specs.declared.Edition.{Edition}
-use Rattle.archive_format.specs.declared.TitlePart.TheVariants.{Part}
+use Rattle.archive_format.specs.declared.TitlePart.{TitlePart}
 use Rattle.archive_format.specs.Archive.{Filed, record_number, body, rising, last_number, next_at}
 use Rattle.archive_format.specs.Archive.{filed_at, filed_from, runs, count_at, trailer_at, decode, place_after}
 use Rattle.archive_format.specs.Archive.{find_in, find_of, title_part_at, title_part_of, title_of}
@@ -42,14 +43,14 @@ find_is e l fs n p r f = go (searched e l fs n r)
     go (absent x y) = false_true (cc)
     go (present o x y w) = let z : o ≡ p = cc in rw z at y
 
-pub absent_is : (e : Edition) (l : List ℕ) (fs : List Filed) (n m : ℕ) → decode e l ≡ Ok fs → find_of e l n ≡ Err m → lookup fs n ≡ Err Record
+pub absent_is : (e : Edition) (l : List ℕ) (fs : List Filed) (n : ℕ) (m : Refusal) → decode e l ≡ Ok fs → find_of e l n ≡ Err m → lookup fs n ≡ Err Record
 absent_is e l fs n m r f = go (searched e l fs n r)
   where
     go : Search e.size l (trailer_at l) (find_of e l n) (lookup fs n) → lookup fs n ≡ Err Record
     go (absent x y) = y
     go (present o x y w) = false_true (cc)
 
-pub find_absent : (e : Edition) (l : List ℕ) (fs : List Filed) (n m : ℕ) → decode e l ≡ Ok fs → lookup fs n ≡ Err m → find_of e l n ≡ Err Record
+pub find_absent : (e : Edition) (l : List ℕ) (fs : List Filed) (n : ℕ) (m : Refusal) → decode e l ≡ Ok fs → lookup fs n ≡ Err m → find_of e l n ≡ Err Record
 find_absent e l fs n m r g = go (searched e l fs n r)
   where
     go : Search e.size l (trailer_at l) (find_of e l n) (lookup fs n) → find_of e l n ≡ Err Record
@@ -70,16 +71,15 @@ find_within e l n p found = go (decode e l) refl found
     go (Ok fs) r f = inside fs (reads e l fs r) (searched e l fs n r)
 
 -- a title's part lies in the archive
-pub part_within : (e : Edition) (l : List ℕ) (n place size : ℕ) → title_part_of e l n ≡ Part place size → place + size ≤ length l
+pub part_within : (e : Edition) (l : List ℕ) (n : ℕ) (part : TitlePart) → title_part_of e l n ≡ Ok part → part.place + part.length ≤ length l
 unfolding title_part_of
-part_within e l n place size = go (find_of e l n) refl
+part_within e l n part = go (find_of e l n) refl
   where
-    go : (x : Or ℕ) → find_of e l n ≡ x → title_part_at e.size l x ≡ Part place size → place + size ≤ length l
+    go : (x : Or ℕ) → find_of e l n ≡ x → title_part_at e.size l x ≡ Ok part → part.place + part.length ≤ length l
     go (Err m) f t = false_true (cc)
     go (Ok p) f t =
-        let at_place : p + e.size + 1 ≡ place = cc in
-        let so-long : get_or l (p + e.size) 0 ≡ size = cc in
-        omega (arith, find_within e l n p f)
+        let is : ◌≡◌ {A = TitlePart} (record { place = p + e.size + 1; length = get_or l (p + e.size) 0 }) part = cc in
+        rw (← is) (omega (arith, find_within e l n p f))
 
 -- the title handed back is that record's
 pub title_is : (e : Edition) (l : List ℕ) (n p : ℕ) → find_of e l n ≡ Ok p → title_of e l n ≡ (filed_at e.size l p).title
@@ -111,7 +111,7 @@ find_more size at (f ∷ fs) gs n p h = go (eqb (record_number f) n) h (find_mor
     go false h ih = ih h
 
 -- a number that the list has not is looked for in what follows
-pub find_after : (size at : ℕ) (fs gs : List Filed) (n m : ℕ) → Shaped size fs → find_in size at fs n ≡ Err m
+pub find_after : (size at : ℕ) (fs gs : List Filed) (n : ℕ) (m : Refusal) → Shaped size fs → find_in size at fs n ≡ Err m
     → find_in size at (fs ++ gs) n ≡ find_in size (at + length (body fs)) gs n
 unfolding find_in body
 find_after size at [] gs n m s h = let z : at ≡ at + 0 = omega arith in ap (λ (y : ℕ). find_in size y gs n) z

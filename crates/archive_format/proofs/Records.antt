@@ -11,10 +11,8 @@ use Rattle.refusal.specs.declared.Refusal.TheVariants.{Record}
 use Rattle.refusal.specs.Refusal.{Or, and_then, both, false_true}
 use Rattle.segment.specs.Layout as layout
 use Rattle.archive_format.specs.declared.Edition.{Edition}
-use Rattle.archive_format.specs.declared.Answer.TheVariants.{Value}
-use Rattle.archive_format.specs.declared.TitlePart.TheVariants.{Part}
 use Rattle.archive_format.specs.Archive.{Filed, record_number, body, rising, last_number, filed_at, count_at, trailer_at, decode, place_in, find_in}
-use Rattle.archive_format.specs.Archive.{count_of, place_of, find_of, title_part_of, answer_of}
+use Rattle.archive_format.specs.Archive.{count_of, place_of, find_of, title_part_of}
 use Rattle.archive_format.specs.Reading.{Reads, reads}
 use Rattle.archive_format.specs.Decoded.{Shaped, Fit, body_laid}
 use Rattle.archive_format.proofs.Decoded.{decoded_is_fit}
@@ -69,9 +67,9 @@ module _ (e : Edition) (l : List ℕ) (gs : List Filed) (f : Filed) (hs : List F
       let gone : find_in e.size 0 gs (record_number f) ≡ Err Record =
       find_above e.size 0 0 gs (record_number f) (fit_first e gs (f ∷ hs) fit).risen (ltb-true _ _ above) in
       let own : record_number f ≡ record_number f = refl in
-      rw r (find_after e.size 0 gs (f ∷ hs) (record_number f) 6 shaped.0 gone ∙ rw (eq-eqb _ _ own, zero-add))
+      rw r (find_after e.size 0 gs (f ∷ hs) (record_number f) Record shaped.0 gone ∙ rw (eq-eqb _ _ own, zero-add))
 
-  pub part_is : title_part_of e l (record_number f) ≡ Part (length (body gs) + e.size + 1) (length f.title)
+  pub part_is : title_part_of e l (record_number f) ≡ Ok (record { place = length (body gs) + e.size + 1; length = length f.title })
   unfolding title_part_of
   part_is = rw (found_is, laid_length e.size f l (length (body gs)) rest shaped.1.0 laid)
 
@@ -81,9 +79,9 @@ stands e l gs f hs r =
     let same : filed_at e.size l (length (body gs)) ≡ f = record_is e l gs f hs r in
     record {
       place = length (body gs);
-      placed = ap answer_of (place_is e l gs f hs r);
+      placed = place_is e l gs f hs r;
       bytes = ap (λ (z : Filed). z.bytes) same;
-      found = ap answer_of found;
+      found = found;
       part = part_is e l gs f hs r;
       title = title_is e l (record_number f) (length (body gs)) found ∙ ap (λ (z : Filed). z.title) same;
     }
@@ -96,7 +94,7 @@ reads_as e l fs r =
       count = rw r;
       each = λ gs f hs s. stands e l gs f hs (r ∙ ap Ok s);
       beyond = λ i h. rw (r, place_beyond e.size 0 fs i h);
-      absent = λ n h. ap answer_of (find_absent e l fs n 6 r h);
+      absent = λ n h. find_absent e l fs n Record r h;
     }
 
 records_from_lem : (e : Edition) (l : List ℕ) (gs fs : List Filed) → decode e l ≡ Ok (gs ++ fs) → records_from e l (length fs) (length gs) ≡ fs
@@ -110,10 +108,10 @@ records_from_lem e l gs (f ∷ fs) r =
     (ap (λ (zs : List Filed). f ∷ zs) (ap (λ (i : ℕ). records_from e l (length fs) i) more ∙ records_from_lem e l (gs ++ (f ∷ [])) fs on))
 
 -- where count answers, they are the archive's
-pub records_are : (e : Edition) (l : List ℕ) (n : ℕ) → answer_of (count_of e l) ≡ Value n → decode e l ≡ Ok (records_from e l n 0)
+pub records_are : (e : Edition) (l : List ℕ) (n : ℕ) → count_of e l ≡ Ok n → decode e l ≡ Ok (records_from e l n 0)
 unfolding count_of
 records_are e l n = go (decode e l) refl
   where
-    go : (x : Or (List Filed)) → decode e l ≡ x → answer_of (and_then x (λ fs. Ok (length fs))) ≡ Value n → decode e l ≡ Ok (records_from e l n 0)
+    go : (x : Or (List Filed)) → decode e l ≡ x → and_then x (λ fs. Ok (length fs)) ≡ Ok n → decode e l ≡ Ok (records_from e l n 0)
     go (Err m) r a = false_true (cc)
     go (Ok fs) r a = let z : length fs ≡ n = cc in r ∙ ap Ok (sym (records_from_lem e l [] fs r) ∙ rw z)

@@ -1,15 +1,13 @@
 -- Archives of segment records: the bytes that hold a list of them, and what reading, finding and adding answer.
 -- Paper 01's words: an archive is a drawer, a segment record a card.
 use Rattle.std.specs.Prelude.{ℕ, zero, suc, ◌+◌, ◌*◌, ◌-◌, ◌≤◌, Bool, true, ◌&&◌, cond, ◌≡◌, List, [], ◌∷◌, ◌++◌, leb, ltb, eqb, length, take, drop, get_or, Ok, Err}
+use Rattle.std.proofs.Common.{lit≤}
 use Rattle.refusal.specs.declared.Refusal.TheVariants.{Mark, Trailer, Places, Title, Order, Record, BufferRoom, Full}
 use Rattle.refusal.specs.Refusal.{Or, need, and_then}
 use Rattle.octets.specs.Octets.{word2, word4, bytes2}
 use Rattle.segment.specs.Layout as layout
 use Rattle.archive_format.specs.declared.Edition.{Edition}
-use Rattle.archive_format.specs.declared.Answer.{Answer}
-use Rattle.archive_format.specs.declared.Answer.TheVariants.{Value, Refused}
 use Rattle.archive_format.specs.declared.TitlePart.{TitlePart}
-use Rattle.archive_format.specs.declared.TitlePart.TheVariants.{Part, Refused as NoPart}
 
 -- the most records that an archive holds
 abbrev pub record_limit : ℕ
@@ -18,10 +16,6 @@ record_limit = 512
 -- the most bytes of a title
 abbrev pub title_limit : ℕ
 title_limit = 40
-
--- a record has room for its number, and two bytes hold the places of 512 of them with titles
-abbrev pub Sized : ℕ → Type 0
-Sized size = (4 ≤ size) × (size ≤ 86)
 
 -- ---- what an archive holds, and its bytes
 
@@ -145,18 +139,18 @@ unfoldable pub find_of : Edition → List ℕ → ℕ → Or ℕ
 find_of e l n = and_then (decode e l) (λ fs. find_in e.size 0 fs n)
 
 -- where the title of the record at a place stands, behind the record and its own length; and that length
-abbrev pub title_part_at : ℕ → List ℕ → Or ℕ → TitlePart
-title_part_at size l (Err n) = NoPart n
-title_part_at size l (Ok p) = Part (p + size + 1) (get_or l (p + size) 0)
+abbrev pub title_part_at : ℕ → List ℕ → Or ℕ → Or TitlePart
+title_part_at size l (Err r) = Err r
+title_part_at size l (Ok p) = Ok (record { place = p + size + 1; length = get_or l (p + size) 0 })
 
 -- of the record with a number
-unfoldable pub title_part_of : Edition → List ℕ → ℕ → TitlePart
+unfoldable pub title_part_of : Edition → List ℕ → ℕ → Or TitlePart
 title_part_of e l n = title_part_at e.size l (find_of e l n)
 
 -- the bytes of an archive at a place and of a length; none where there is no place
-abbrev pub bytes_at : List ℕ → TitlePart → List ℕ
-bytes_at l (NoPart n) = []
-bytes_at l (Part place size) = take size (drop place l)
+abbrev pub bytes_at : List ℕ → Or TitlePart → List ℕ
+bytes_at l (Err r) = []
+bytes_at l (Ok part) = take part.length (drop part.place l)
 
 -- a title is the part of the archive at its place and of its length
 unfoldable pub title_of : Edition → List ℕ → ℕ → List ℕ
@@ -178,27 +172,23 @@ add_to e b t room fs =
 unfoldable pub add_of : Edition → List ℕ → List ℕ → List ℕ → ℕ → Or (List ℕ)
 add_of e l b t room = and_then (decode e l) (λ fs. add_to e b t room fs)
 
--- ---- the paper's number and value of each answer, and the second buffer afterwards
+-- ---- a call that writes to a lent buffer: what it answers, and the buffer afterwards
 
-abbrev pub answer_of : Or ℕ → Answer
-answer_of (Err n) = Refused n
-answer_of (Ok n) = Value n
-
--- adding answers the length of what it wrote
-abbrev pub new_length : Or (List ℕ) → Answer
-new_length x = answer_of (and_then x (λ new. Ok (length new)))
+-- the length of what it wrote
+abbrev pub new_length : Or (List ℕ) → Or ℕ
+new_length x = and_then x (λ new. Ok (length new))
 
 -- a refusal writes nothing; bytes beyond the new archive stay
 abbrev pub overwrite : Or (List ℕ) → List ℕ → List ℕ
-overwrite (Err n) out = out
+overwrite (Err r) out = out
 overwrite (Ok new) out = new ++ drop (length new) out
 
 -- a call that writes bytes to a lent buffer, or refuses: its answer, and the buffer afterwards
-pub record Writes (x : Or (List ℕ)) (before : List ℕ) (r : Answer) (after : List ℕ) : Type 0 where
+pub record Writes (x : Or (List ℕ)) (before : List ℕ) (r : Or ℕ) (after : List ℕ) : Type 0 where
   pub answer : r ≡ new_length x
   pub buffer : after ≡ overwrite x before
 
 -- ---- the first edition: records of 68 bytes, mark "DR"
 
 abbrev pub first_edition : Edition
-first_edition = record { size = layout.size; first = 68; second = 82 }
+first_edition = record { size = layout.size; first = 68; second = 82; sized = (lit≤ tt, lit≤ tt) }

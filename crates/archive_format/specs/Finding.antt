@@ -1,6 +1,7 @@
 -- What finding means: the place found holds the record with the number, and its title is that record's.
 use Rattle.std.specs.Prelude.{ℕ, zero, suc, ◌+◌, ◌*◌, ◌≤◌, ◌<◌, ◌≡◌, refl, Bool, true, false, cond, List, [], ◌∷◌, ◌++◌, eqb, ltb, length, Ok, Err}
 use Rattle.std.proofs.Common.{arith, ap, ◌∙◌, ltb-true}
+use Rattle.refusal.specs.declared.Refusal.{Refusal}
 use Rattle.refusal.specs.declared.Refusal.TheVariants.{Record}
 use Rattle.refusal.specs.Refusal.{Or, both, false_true}
 use Rattle.octets.specs.Octets.{word2}
@@ -31,12 +32,12 @@ lookup_more (f ∷ fs) gs n g h = go (eqb (record_number f) n) h (lookup_more fs
     go true h ih = h
     go false h ih = ih h
 
-pub lookup_after : (fs gs : List Filed) (n m : ℕ) → lookup fs n ≡ Err m → lookup (fs ++ gs) n ≡ lookup gs n
+pub lookup_after : (fs gs : List Filed) (n : ℕ) (r : Refusal) → lookup fs n ≡ Err r → lookup (fs ++ gs) n ≡ lookup gs n
 unfolding lookup
-lookup_after [] gs n m h = refl
-lookup_after (f ∷ fs) gs n m h = go (eqb (record_number f) n) h (lookup_after fs gs n m)
+lookup_after [] gs n r h = refl
+lookup_after (f ∷ fs) gs n r h = go (eqb (record_number f) n) h (lookup_after fs gs n r)
   where
-    go : (b : Bool) → cond b (Ok f) (lookup fs n) ≡ Err m → (lookup fs n ≡ Err m → lookup (fs ++ gs) n ≡ lookup gs n)
+    go : (b : Bool) → cond b (Ok f) (lookup fs n) ≡ Err r → (lookup fs n ≡ Err r → lookup (fs ++ gs) n ≡ lookup gs n)
         → cond b (Ok f) (lookup (fs ++ gs) n) ≡ lookup gs n
     go true h ih = false_true (cc)
     go false h ih = ih h
