@@ -1,6 +1,7 @@
 -- Archives of segment records: the bytes that hold a list of them, and what reading, finding and adding answer.
 -- Paper 01's words: an archive is a drawer, a segment record a card.
 use Rattle.std.specs.Prelude.{ℕ, zero, suc, ◌+◌, ◌*◌, ◌-◌, ◌≤◌, Bool, true, ◌&&◌, cond, ◌≡◌, List, [], ◌∷◌, ◌++◌, leb, ltb, eqb, length, take, drop, get_or, Ok, Err}
+use Rattle.std.specs.List.{list_all}
 use Rattle.std.proofs.Common.{lit≤}
 use Rattle.refusal.specs.declared.Refusal.TheVariants.{Mark, Trailer, Places, Title, Order, Record, BufferRoom, Full}
 use Rattle.refusal.specs.Refusal.{Or, need, and_then}
@@ -50,9 +51,8 @@ encode e fs = body fs ++ (places e.size 0 fs ++ (bytes2 (length fs) ++ (bytes2 (
 abbrev pub printable : ℕ → Bool
 printable b = leb 32 b && leb b 126
 
-unfoldable pub printables : List ℕ → Bool
-printables [] = true
-printables (b ∷ bs) = printable b && printables bs
+abbrev pub printables : List ℕ → Bool
+printables t = list_all printable t
 
 -- a title that a record may be filed with
 abbrev pub title_fits : List ℕ → Bool

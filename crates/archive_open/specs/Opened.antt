@@ -1,0 +1,42 @@
+-- What opening an archive answers, and what that says of its reading.
+use Rattle.std.specs.Prelude.{ℕ, ◌+◌, ◌*◌, ◌≡◌, true, List, length, Ok, Err}
+use Rattle.std.proofs.Common.{sym, ◌∙◌}
+use Rattle.refusal.specs.Refusal.{Or}
+use Rattle.archive_format.specs.declared.Edition.{Edition}
+use Rattle.archive_format.specs.Archive.{Filed, last_number, filed_from, runs, count_at, trailer_at, decode}
+use Rattle.archive_format.specs.Reading.{filed_length, Reads, reads}
+use Rattle.archive_open.specs.declared.Archive.{Archive}
+
+-- the refusal, or the archive of these bytes, which says that they read
+abbrev pub Opens : Edition → List ℕ → Or Archive → Type 0
+Opens e l (Err r) = decode e l ≡ Err r
+Opens e l (Ok a) = (a.edition ≡ e) × (a.bytes.now ≡ l)
+
+-- ---- read
+
+pub record Held (e : Edition) (l : List ℕ) (count t last : ℕ) : Type 0 where
+  pub fs : List Filed
+  pub is : decode e l ≡ Ok fs
+  pub count_is : count ≡ count_at l
+  pub trailer_is : t ≡ trailer_at l
+  pub last_is : last ≡ last_number 0 fs
+  pub read : Reads e l fs
+
+pub holds : (a : Archive) → Held a.edition a.bytes.now a.count a.trailer a.last
+holds a =
+    let fs : List Filed = filed_from a.edition.size a.count a.bytes.now 0 in
+    let m : Reads a.edition a.bytes.now fs = reads a.edition a.bytes.now fs a.read in
+    record { fs = fs; is = a.read; count_is = sym (filed_length a.edition.size a.count a.bytes.now 0) ∙ sym m.count; trailer_is = a.ends; last_is = a.lasts; read = m }
+
+pub held : {e : Edition} {l : List ℕ} (a : Archive) → Opens e l (Ok a) → Held e l a.count a.trailer a.last
+held a o = rw o.0 at (rw o.1 at (holds a))
+
+module _ (e : Edition) (l : List ℕ) {count t last : ℕ} (h : Held e l count t last) where
+  pub held_run : runs e.size count l t 0 t ≡ true
+  held_run = rw (h.count_is, h.trailer_is) h.read.run
+
+  pub held_fits : t + 2 * count + 6 ≡ length l
+  held_fits = rw (h.count_is, h.trailer_is) h.read.sized
+
+  pub held_filed : decode e l ≡ Ok (filed_from e.size count l 0)
+  held_filed = h.is ∙ rw (h.count_is, h.read.held)
