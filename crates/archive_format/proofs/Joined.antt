@@ -1,5 +1,5 @@
 -- Laws of specs/Joined.antt: Two lists of records, one after the other: their titles, numbers, shapes and bytes; the first of a fit list is fit.
-use Rattle.std.specs.Prelude.{◌+◌, ◌≤◌, ◌≡◌, true, List, [], ◌++◌, length}
+use Rattle.std.specs.Prelude.{◌+◌, ◌≤◌, ◌≡◌, true, List, ◌++◌, length}
 use Rattle.std.proofs.Common.{arith, sym, ◌∙◌, length-append}
 use Rattle.refusal.specs.Refusal.{both}
 use Rattle.archive_format.specs.declared.Edition.{Edition}

@@ -9,7 +9,6 @@ use Rattle.std.proofs.Math.ListN.{length, drop}
 use Rattle.std.proofs.Math.Seq.{drop_at, append_snoc}
 use Rattle.refusal.specs.declared.Refusal.TheVariants.{Record}
 use Rattle.refusal.specs.Refusal.{Or, and_then, both, false_true}
-use Rattle.segment.specs.Layout as layout
 use Rattle.archive_format.specs.declared.Edition.{Edition}
 use Rattle.archive_format.specs.Archive.{Filed, record_number, body, rising, last_number, filed_at, count_at, trailer_at, decode, place_in, find_in}
 use Rattle.archive_format.specs.Archive.{count_of, place_of, find_of, title_part_of}

@@ -6,7 +6,7 @@ use Rattle.refusal.specs.Refusal.{false_true}
 use Rattle.octets.specs.Octets.{word4, bytes2}
 use Rattle.segment.specs.Layout as layout
 use Rattle.archive_format.specs.declared.Edition.{Edition}
-use Rattle.archive_format.specs.Archive.{record_limit, title_limit, Filed, body, encode, printables}
+use Rattle.archive_format.specs.Archive.{record_limit, title_limit, Filed, body, encode}
 use Rattle.archive_format.specs.Archive.{titled, rising, decode, place_in, place_of, first_edition, place_after}
 use Rattle.archive_format.specs.Words.{Bytes}
 use Rattle.archive_format.specs.Decoded.{Shaped, Fit}
@@ -49,7 +49,7 @@ numbered_shaped zero n = tt
 numbered_shaped (suc k) n = (refl, omega arith, numbered_shaped k (n + 1))
 
 numbered_titled : (k n : ℕ) → titled (numbered k n) ≡ true
-unfolding numbered titled printables
+unfolding numbered titled
 numbered_titled zero n = refl
 numbered_titled (suc k) n = numbered_titled k (n + 1)
 

@@ -1,7 +1,7 @@
 -- Written reads back: where adding accepts, the new archive reads as the old records, in order, and the new one;
 -- finding and titles give back the new record, and every record found before at its place, with its bytes and title.
 -- And the records of a fit list are accepted one after another.
-use Rattle.std.specs.Prelude.{ℕ, ◌+◌, ◌≤◌, ◌<◌, ◌≡◌, true, List, [], ◌++◌, length, take, drop, Ok, Err}
+use Rattle.std.specs.Prelude.{ℕ, ◌+◌, ◌≤◌, ◌<◌, ◌≡◌, true, List, ◌++◌, length, take, drop, Ok, Err}
 use Rattle.octets.specs.Octets.{word4}
 use Rattle.archive_format.specs.declared.Edition.{Edition}
 use Rattle.archive_format.specs.Archive.{record_limit, title_limit, Filed, body, printables, last_number}

@@ -5,7 +5,7 @@ ghost use Rattle.archive_format.specs.Sized.{Sized};
 
 mod beginning;
 
-pub use beginning::empty;
+pub use beginning::{empty, first_edition};
 
 // The most records that an archive holds.
 pub const RECORD_LIMIT: usize = 512;
@@ -21,13 +21,6 @@ pub struct Edition {
     pub second: u8,
     pub ghost sized: { Sized size },
 }
-
-// The first edition: records of 68 bytes, mark "DR".
-pub const FIRST_EDITION: Edition = Edition {
-    size: segment::SIZE,
-    first: 68,
-    second: 82,
-};
 
 // Where a title stands in its archive, and its length.
 #[derive(Clone, Copy)]

@@ -1,5 +1,5 @@
 -- The loop that seeks a number among the records: the records left hold it where all of them do.
-use Rattle.std.specs.Prelude.{ℕ, suc, ◌+◌, ◌-◌, ◌≤◌, ◌<◌, ◌≡◌, refl, List, length, Ok, Err}
+use Rattle.std.specs.Prelude.{ℕ, suc, ◌-◌, ◌≤◌, ◌<◌, ◌≡◌, refl, List, length, Ok, Err}
 use Rattle.std.proofs.Common.{arith, sym, ◌∙◌, eq-eqb, ne_eqb}
 use Rattle.std.proofs.Math.Nat.{sub-zero}
 use Rattle.refusal.specs.declared.Refusal.TheVariants.{Record}

@@ -1,23 +1,22 @@
--- A place is read in the trailer; 6 for an index from the count on.
-use Rattle.std.proofs.Common.{arith, sym}
-use Rattle.archive_open.specs.Opening.{held, held_fits}
-use Rattle.archive_read.proofs.Answers.{place_invalid, place_valid, place_none}
+-- A place is read in the trailer, where an index below the count has one.
+use Rattle.std.proofs.Common.{rules, arith, ltb-true}
+use Rattle.refusal.specs.Refusal.{need, ladder, holds}
+use Rattle.archive_read.proofs.Answers.{fits, placed}
 use Rattle.archive_read.proofs.place_in.Goals as goal
 
 pub overflow_mul-i : goal.overflow_mul-i
-overflow_mul-i c = omega (arith, held_fits c.args.e c.args.s.now (held (sym c.in-Valid.ensures)))
+overflow_mul-i c = omega (arith, fits _ _ _ c.in_ok-archive.ensures, ltb-true _ _ (holds _ _ _ _ c.need.ensures c.in_ok-need.was))
 
-pub overflow_add-trailer : goal.overflow_add-trailer
-overflow_add-trailer c = omega (arith, held_fits c.args.e c.args.s.now (held (sym c.in-Valid.ensures)))
+pub overflow_add-archive : goal.overflow_add-archive
+overflow_add-archive c = omega (arith, fits _ _ _ c.in_ok-archive.ensures, ltb-true _ _ (holds _ _ _ _ c.need.ensures c.in_ok-need.was))
 
 pub place_at-requires : goal.place_at-requires
-place_at-requires c = omega (arith, held_fits c.args.e c.args.s.now (held (sym c.in-Valid.ensures)))
+place_at-requires c = omega (arith, fits _ _ _ c.in_ok-archive.ensures, ltb-true _ _ (holds _ _ _ _ c.need.ensures c.in_ok-need.was))
 
-pub returns-in-Invalid : goal.returns-in-Invalid
-returns-in-Invalid c = place_invalid _ _ _ _ (sym c.in-Invalid.ensures)
+pub returns-in_err-need : goal.returns-in_err-need
+unfolding need
+returns-in_err-need c = search (rules, ladder, placed _ _ _ c.in_ok-archive.ensures c.args.i)
 
-pub returns-then-i-count : goal.returns-then-i-count
-returns-then-i-count c = place_valid _ _ (held (sym c.in-Valid.ensures)) c.if-i-count.true c.place_at.ensures.0
-
-pub returns-else-i-count : goal.returns-else-i-count
-returns-else-i-count c = place_none _ _ (held (sym c.in-Valid.ensures)) c.if-i-count.false
+pub returns : goal.returns
+unfolding need
+returns c = search (rules, ladder, placed _ _ _ c.in_ok-archive.ensures c.args.i)

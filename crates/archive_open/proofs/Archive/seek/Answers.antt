@@ -1,5 +1,5 @@
 -- The record lies in the archive; it has the number, or the next ones may.
-use Rattle.std.proofs.Common.{arith, ◌-◌, ◌+◌}
+use Rattle.std.proofs.Common.{arith}
 use Rattle.archive_open.specs.Walking.{walk_fits}
 use Rattle.archive_open.proofs.Seeking.{seek_start, seek_found, seek_on, seek_none}
 use Rattle.archive_open.proofs.Archive.seek.Goals as goal
