@@ -5,7 +5,7 @@ ghost use Rattle.std.specs.Prelude.{◌≡◌};
 ghost use Rattle.ranges.specs.Ranges.{Ranges};
 ghost use Rattle.propagation.specs.Propagation.{lent};
 ghost use Rattle.propagation.specs.Steps.{Room};
-ghost use Rattle.working.specs.Working.{Works, accept_of, by_decision, called, decision_for, worked_call};
+ghost use Rattle.working.specs.Working.{Works, accept_of, by_decision, called, decision_for, fits, worked_call};
 ghost use Rattle.working.specs.Decided.{Decided};
 
 use balance_decision::{Decision, Unworked};
@@ -13,15 +13,21 @@ use refusal::{Refusal, need};
 use segment::Segment;
 use working_outcome::Working;
 
+// Whether profiles of those lengths have room for the record's cycle.
+pub fn fits(s: Segment, output: usize, first: usize, second: usize) -> bool
+    ensures { result ≡ fits output first second s }
+{
+    let c = u64::from(s.cycle);
+    (4 * c <= output as u64) & (c <= first as u64) & (c <= second as u64)
+}
+
 // The refusals of the record and of the lent profiles' lengths.
 #[tactic(auto, unfolding(validation::specs::Accepting::accept_with, refusal::specs::Refusal::need))]
 pub fn accept(bytes: &[u8], output: usize, first: usize, second: usize) -> Result<Segment, Refusal>
     ensures { result ≡ accept_of bytes.now output first second }
 {
     let s = validation::check(bytes)?;
-    let c = u64::from(s.cycle);
-    let fits = (4 * c <= output as u64) & (c <= first as u64) & (c <= second as u64);
-    need(Refusal::ProfileRoom, fits)?;
+    need(Refusal::ProfileRoom, fits(s, output, first, second))?;
     Ok(s)
 }
 
