@@ -1,19 +1,22 @@
 -- The lines of record 1 as paper 01 prints them, from the definitions.
-use Rattle.std.specs.Prelude.{◌≡◌, refl, ◌++◌, Float}
+use Rattle.std.specs.Prelude.{◌≡◌, refl, ◌++◌, Float, Ok}
 use Rattle.text.specs.Text.{digits, field}
 use Rattle.pair_flows.specs.declared.PairFlows.{PairFlows}
-use Rattle.balance_decision.specs.declared.Outcome.TheVariants.{Worked}
 use Rattle.working_outcome.specs.declared.Working.{Working}
-use Rattle.working_outcome.specs.Answer.{no_figures}
+use Rattle.exit_figures.specs.declared.ExitFigures.{ExitFigures}
 use Rattle.text.specs.Words.{bytes}
 use Rattle.report_lines.specs.Lines.{record_words, exit_words, record_line, exit_line, access_line, blocked_line}
 use Rattle.report_record.specs.Record.{worked_text, record_text}
+
+-- an exit that nothing leaves by
+abbrev no_figures : ExitFigures
+no_figures = record { total = 0; green = 0; permille = 0 }
 
 -- the figures of the paper's record 1, any pair flows and any last sum
 abbrev example : PairFlows → Float → Working
 example pairs sum =
     record {
-      outcome = Worked sum;
+      sum = sum;
       arrival = 34;
       rounds = 1;
       pairs = pairs;
@@ -25,7 +28,7 @@ example pairs sum =
     }
 
 -- its six lines
-pub printed : (pairs : PairFlows) (sum : Float) → record_text 1 60 (example pairs sum)
+pub printed : (pairs : PairFlows) (sum : Float) → record_text 1 60 (Ok (example pairs sum))
     ≡ bytes "card 1 cycle 60 shift 34 rounds 1\n"
     ++ bytes "exit l total 0 green 0 permille 0\n"
     ++ bytes "exit t total 21600000 green 10800000 permille 500\n"

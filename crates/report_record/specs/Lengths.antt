@@ -1,12 +1,12 @@
 -- The lines of a record have 468 bytes at most.
-use Rattle.std.specs.Prelude.{ℕ, ◌≤◌, length}
+use Rattle.std.specs.Prelude.{ℕ, ◌≤◌, length, Result, Ok, Err}
 use Rattle.std.proofs.Common.{arith, length-append}
-use Rattle.balance_decision.specs.declared.Outcome.{Outcome}
-use Rattle.balance_decision.specs.declared.Outcome.TheVariants.{Worked, Refused, Unsettled}
+use Rattle.balance_decision.specs.declared.Unworked.{Unworked}
+use Rattle.balance_decision.specs.Unworked.{unworked_number}
 use Rattle.working_outcome.specs.declared.Working.{Working}
 use Rattle.report_lines.specs.Lines.{exit_label, letter_l, letter_t, letter_r}
 use Rattle.report_lines.specs.Lengths.{record_line_lem, exit_line_lem, access_line_lem, blocked_line_lem, refused_line_lem}
-use Rattle.report_record.specs.Record.{worked_text, text_by, record_text}
+use Rattle.report_record.specs.Record.{worked_text, record_text}
 
 worked_text_lem : (number cycle : ℕ) (w : Working) → length (worked_text number cycle w) ≤ 468
 unfolding worked_text
@@ -22,11 +22,7 @@ worked_text_lem number cycle w =
       blocked_line_lem w.blocked cycle,
     ))
 
-pub record_text_lem : (number cycle : ℕ) (w : Working) → length (record_text number cycle w) ≤ 468
+pub record_text_lem : (number cycle : ℕ) (r : Result Working Unworked) → length (record_text number cycle r) ≤ 468
 unfolding record_text
-record_text_lem number cycle w = go w.outcome
-  where
-    go : (o : Outcome) → length (text_by o number cycle w) ≤ 468
-    go (Worked x) = worked_text_lem number cycle w
-    go (Refused k) = omega (arith, refused_line_lem number k)
-    go (Unsettled x) = omega (arith, refused_line_lem number 15)
+record_text_lem number cycle (Ok w) = worked_text_lem number cycle w
+record_text_lem number cycle (Err u) = omega (arith, refused_line_lem number (unworked_number u))

@@ -1,9 +1,8 @@
 -- What the program prints for a record, from its number, its cycle and its working.
-use Rattle.std.specs.Prelude.{ℕ, List, ◌++◌}
-use Rattle.balance_decision.specs.declared.Outcome.{Outcome}
-use Rattle.balance_decision.specs.declared.Outcome.TheVariants.{Worked, Refused, Unsettled}
+use Rattle.std.specs.Prelude.{ℕ, List, ◌++◌, Result, Ok, Err}
+use Rattle.balance_decision.specs.declared.Unworked.{Unworked}
+use Rattle.balance_decision.specs.Unworked.{unworked_number}
 use Rattle.working_outcome.specs.declared.Working.{Working}
-use Rattle.balance_decision.specs.Outcome.{refusal_of}
 use Rattle.report_lines.specs.Lines.{exit_label, letter_l, letter_t, letter_r, record_line, exit_line, access_line, blocked_line, refused_line}
 
 -- six lines, exits in order
@@ -17,10 +16,6 @@ worked_text number cycle w =
     ++ blocked_line w.blocked cycle
 
 -- a refused record has one line; 15 stands without its sum
-abbrev pub text_by : Outcome → (number cycle : ℕ) → Working → List ℕ
-text_by (Worked x) number cycle w = worked_text number cycle w
-text_by (Refused k) number cycle w = refused_line number (refusal_of (Refused k))
-text_by (Unsettled x) number cycle w = refused_line number (refusal_of (Unsettled x))
-
-unfoldable pub record_text : (number cycle : ℕ) → Working → List ℕ
-record_text number cycle w = text_by w.outcome number cycle w
+unfoldable pub record_text : (number cycle : ℕ) → Result Working Unworked → List ℕ
+record_text number cycle (Ok w) = worked_text number cycle w
+record_text number cycle (Err u) = refused_line number (unworked_number u)

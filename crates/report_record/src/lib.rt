@@ -4,7 +4,7 @@
 ghost use Rattle.buffer.specs.Buffer.{Wrote};
 ghost use Rattle.report_record.specs.Record.{record_text, worked_text};
 
-use balance_decision::Outcome;
+use balance_decision::Unworked;
 use report_lines::{access_line, blocked_line, exit_line, record_line, refused_line};
 use working_outcome::Working;
 
@@ -19,13 +19,18 @@ fn worked_text(text: &mut [u8], at: usize, number: u32, cycle: u32, w: Working) 
     blocked_line(text, p, w.blocked, cycle)
 }
 
-pub fn record_text(text: &mut [u8], at: usize, number: u32, cycle: u32, w: Working) -> usize
-    ensures { Wrote text.old at (record_text number cycle w) text.new result }
+#[tactic(auto, unfolding(crate::specs::Record::record_text))]
+pub fn record_text(
+    text: &mut [u8],
+    at: usize,
+    number: u32,
+    cycle: u32,
+    answer: Result<Working, Unworked>,
+) -> usize
+    ensures { Wrote text.old at (record_text number cycle answer) text.new result }
 {
-    let outcome = w.outcome;
-    match outcome {
-        Outcome::Worked(_) => worked_text(text, at, number, cycle, w),
-        Outcome::Refused(k) => refused_line(text, at, number, k),
-        Outcome::Unsettled(_) => refused_line(text, at, number, 15),
+    match answer {
+        Ok(w) => worked_text(text, at, number, cycle, w),
+        Err(u) => refused_line(text, at, number, u.number()),
     }
 }

@@ -1,10 +1,9 @@
 -- The exam sheet of a segment record on one page (paper 02, request 3), from its number, its cycle, what its working answered and the
 -- output that the working left. Paper 02's words: a card is a segment record, grains are flow units.
-use Rattle.std.specs.Prelude.{ℕ, zero, suc, ◌+◌, ◌/◌, ◌≤◌, ◌≡◌, List, [], ◌∷◌, ◌++◌, Float, length, take, drop, get_or}
+use Rattle.std.specs.Prelude.{ℕ, zero, suc, ◌+◌, ◌/◌, ◌≤◌, ◌≡◌, List, [], ◌∷◌, ◌++◌, Result, Ok, Err, length, take, drop, get_or}
 use Rattle.runs.specs.Runs.{run_at}
-use Rattle.balance_decision.specs.declared.Outcome.{Outcome}
-use Rattle.balance_decision.specs.declared.Outcome.TheVariants.{Worked, Refused, Unsettled}
-use Rattle.balance_decision.specs.Outcome.{refusal_of}
+use Rattle.balance_decision.specs.declared.Unworked.{Unworked}
+use Rattle.balance_decision.specs.Unworked.{unworked_number}
 use Rattle.working_outcome.specs.declared.Working.{Working}
 use Rattle.text.specs.Text.{columns}
 use Rattle.page.specs.Page.{page}
@@ -67,14 +66,11 @@ worked_page number cycle w output = page (sheet_lines number cycle w (run_at cyc
 unfoldable pub refused_page : (number k : ℕ) → List ℕ
 refused_page number k = page (refused_words number k ∷ [])
 
-abbrev pub page_by : Outcome → (number cycle : ℕ) → Working → (output : List ℕ) → List ℕ
-page_by (Worked x) number cycle w output = worked_page number cycle w output
-page_by (Refused k) number cycle w output = refused_page number (refusal_of (Refused k))
-page_by (Unsettled x) number cycle w output = refused_page number (refusal_of (Unsettled x))
-
-unfoldable pub record_page : (number cycle : ℕ) → Working → (output : List ℕ) → List ℕ
-record_page number cycle w output = page_by w.outcome number cycle w output
+-- by what the working answered
+unfoldable pub record_page : (number cycle : ℕ) → Result Working Unworked → (output : List ℕ) → List ℕ
+record_page number cycle (Ok w) output = worked_page number cycle w output
+record_page number cycle (Err u) output = refused_page number (unworked_number u)
 
 -- where the record has worked, the output holds the through run
-pub record RunStands (cycle : ℕ) (w : Working) (output : List ℕ) : Type 0 where
-  pub worked : (x : Float) → w.outcome ≡ Worked x → cycle + cycle ≤ length output
+pub record RunStands (cycle : ℕ) (answer : Result Working Unworked) (output : List ℕ) : Type 0 where
+  pub worked : (w : Working) → answer ≡ Ok w → cycle + cycle ≤ length output

@@ -9,7 +9,7 @@ ghost use Rattle.text.specs.Text.{columns, most_blanks};
 ghost use Rattle.sheet_page.specs.SheetPage.{exit_lines, flow_lines, head_lines, pair_lines, pair_unit, pair_width};
 ghost use Rattle.sheet_page.specs.SheetPage.{RunStands, record_page, refused_page, rows_for, worked_page};
 
-use balance_decision::Outcome;
+use balance_decision::Unworked;
 use exit_figures::ExitFigures;
 use page::{end_line, end_page};
 use report_lines::{exit_words, record_words, refused_words};
@@ -126,22 +126,21 @@ pub fn refused_page(text: &mut [u8], at: usize, number: u32, k: u32) -> usize
     end_page(text, p, 1)
 }
 
-// The page of a record by its outcome. The output is looked at where the record has worked, and is asked to hold the run there.
+// The page of a record by what its working answered. The output is looked at where it has worked, and is asked to hold the run there.
+#[tactic(auto, unfolding(crate::specs::SheetPage::record_page))]
 pub fn record_page(
     text: &mut [u8],
     at: usize,
     number: u32,
     cycle: u32,
-    w: Working,
+    answer: Result<Working, Unworked>,
     output: &[u32],
 ) -> usize
-    requires { RunStands cycle w output.now }
-    ensures { Wrote text.old at (record_page number cycle w output.now) text.new result }
+    requires { RunStands cycle answer output.now }
+    ensures { Wrote text.old at (record_page number cycle answer output.now) text.new result }
 {
-    let outcome = w.outcome;
-    match outcome {
-        Outcome::Worked(_) => worked_page(text, at, number, cycle, w, output),
-        Outcome::Refused(k) => refused_page(text, at, number, k),
-        Outcome::Unsettled(_) => refused_page(text, at, number, 15),
+    match answer {
+        Ok(w) => worked_page(text, at, number, cycle, w, output),
+        Err(u) => refused_page(text, at, number, u.number()),
     }
 }
