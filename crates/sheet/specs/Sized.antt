@@ -1,6 +1,6 @@
 -- The sheet of every record that is decided to work fits its page.
-use Rattle.std.specs.Prelude.{ℕ, ◌^◌, ◌<◌, ◌≡◌, List, Float, length, get_or}
-use Rattle.std.proofs.Common.{arith}
+use Rattle.std.specs.Prelude.{ℕ, ◌^◌, ◌<◌, ◌≡◌, List, length, get_or, Ok}
+use Rattle.std.proofs.Common.{arith, sym, subst}
 use Rattle.lists.specs.Lists.{tab_length}
 use Rattle.runs.specs.Runs.{run_at}
 use Rattle.octets.specs.Octets.{word4}
@@ -9,11 +9,12 @@ use Rattle.segment.specs.Layout.{number_at}
 use Rattle.segment.specs.Segment.{segment_of}
 use Rattle.ranges.specs.Ranges.{Ranges}
 use Rattle.exit_figures.specs.declared.ExitFigures.{ExitFigures}
-use Rattle.balance_decision.specs.declared.Outcome.TheVariants.{Worked}
-use Rattle.propagation.specs.Propagation.{Profiles, flow_at}
-use Rattle.working_outcome.specs.Answer.{run_of}
+use Rattle.balance_decision.specs.declared.Decision.{Decision}
+use Rattle.propagation.specs.Propagation.{Profiles, flow_at, filled_of}
+use Rattle.working_outcome.specs.declared.Working.{Working}
+use Rattle.working_outcome.specs.Answer.{run_of, worked_of}
 use Rattle.working_outcome.specs.Filled.{filled_run}
-use Rattle.working.specs.Working.{decision_for, by_outcome, call_of}
+use Rattle.working.specs.Working.{decision_for, call_of}
 use Rattle.working.proofs.Ways.{call_worked}
 use Rattle.working.specs.Sizes.{ExitSized, worked_sized, run_sized}
 use Rattle.sheet_page.specs.Fits.{ExitFits, SheetFits}
@@ -21,19 +22,18 @@ use Rattle.sheet_page.specs.Fits.{ExitFits, SheetFits}
 exit_fits : (f : ExitFigures) → ExitSized f → ExitFits f
 exit_fits f h = record { total = omega (arith, h.total); green = omega (arith, h.total, h.green); permille = omega (arith, h.permille) }
 
-module _ (s : Segment) (r : Ranges s) (x : Float) (e : (decision_for s).outcome ≡ Worked x) (p : Profiles) where
+module _ (s : Segment) (r : Ranges s) (d : Decision) (e : decision_for s ≡ Ok d) (p : Profiles) where
   abbrev rows : List (List ℕ)
-  rows = (decision_for s).pairs.rows
+  rows = d.pairs.rows
 
   through_length : length (run_of s rows 1) ≡ s.cycle
   unfolding run_of
   through_length = tab_length (flow_at s rows 1) 1 s.cycle
 
   -- what the working answers and leaves, on a record with a number of four bytes
-  pub sheet_sized : (number : ℕ) → number < 2 ^ 32 → let c = by_outcome (Worked x) s (decision_for s) p in
-      SheetFits number s.cycle c.answer (run_at s.cycle 1 c.after.output)
+  pub sheet_sized : (number : ℕ) → number < 2 ^ 32 → SheetFits number s.cycle (worked_of s d) (run_at s.cycle 1 (filled_of s rows p).output)
   sheet_sized number four =
-      let w = worked_sized s r x e in
+      let w = worked_sized s r d e in
       rw (filled_run s rows p 1 (omega arith))
       (record {
         ten = omega arith;
@@ -45,7 +45,7 @@ module _ (s : Segment) (r : Ranges s) (x : Float) (e : (decision_for s).outcome 
         left = exit_fits _ w.left;
         through = exit_fits _ w.through;
         right = exit_fits _ w.right;
-        flows = λ i. omega (arith, run_sized s r x e 1 (omega arith) i);
+        flows = λ i. omega (arith, run_sized s r d e 1 (omega arith) i);
         steps = omega (arith, through_length, r.cycle);
       })
 
@@ -56,9 +56,11 @@ module _ (l : List ℕ) (bytes : (i : ℕ) → get_or l i 0 < 256) where
   unfolding word4
   number_small = omega (arith, bytes 0, bytes 1, bytes 2, bytes 3)
 
-  pub called_sized : (p : Profiles) (x : Float) → (call_of l p).answer.outcome ≡ Worked x →
-      SheetFits (word4 l number_at) (segment_of l).cycle (call_of l p).answer (run_at (segment_of l).cycle 1 (call_of l p).after.output)
-  called_sized p x e =
-      let b = call_worked l p x e in
+  pub called_sized : (p : Profiles) (w : Working) → (call_of l p).answer ≡ Ok w →
+      SheetFits (word4 l number_at) (segment_of l).cycle w (run_at (segment_of l).cycle 1 (call_of l p).after.output)
+  called_sized p w e =
+      let b = call_worked l p w e in
       let s = b.segment in
-      rw (b.is, ← b.accepted.is) (sheet_sized s b.accepted.ranges x b.works p (word4 l number_at) number_small)
+      let fits : SheetFits (word4 l number_at) (segment_of l).cycle (worked_of s b.decision) (run_at (segment_of l).cycle 1 (call_of l p).after.output) =
+      rw (b.is, ← b.accepted.is) (sheet_sized s b.accepted.ranges b.decision b.works p (word4 l number_at) number_small) in
+      subst (λ (v : Working). SheetFits (word4 l number_at) (segment_of l).cycle v (run_at (segment_of l).cycle 1 (call_of l p).after.output)) (sym b.answer) fits

@@ -3,41 +3,41 @@
 
 ghost use Rattle.std.specs.Prelude.{◌≡◌, ◌≤◌, length};
 ghost use Rattle.ranges.specs.Ranges.{Ranges};
-ghost use Rattle.balance_decision.specs.declared.Outcome.TheVariants.{Worked};
-ghost use Rattle.propagation.specs.Propagation.{lent};
+ghost use Rattle.propagation.specs.Propagation.{filled_of, lent};
 ghost use Rattle.propagation.specs.Steps.{Room};
+ghost use Rattle.working_outcome.specs.Answer.{worked_of};
 ghost use Rattle.working.specs.Decided.{Decided};
-ghost use Rattle.working.specs.Working.{by_decision, by_outcome, decision_for};
+ghost use Rattle.working.specs.Working.{by_decision, decision_for};
 ghost use Rattle.page.specs.Page.{page_room};
 ghost use Rattle.sheet.specs.Sheet.{Sheets, printed, sheet_by, sheet_called};
 
-use balance_decision::{Decision, Outcome};
+use balance_decision::{Decision, Unworked};
 use page::PAGE_ROOM;
+use refusal::{Refusal, need};
 use segment::Segment;
-use validation::Checked;
 use working_outcome::Working;
 
 // Fills the profiles of a record that is decided to work, then the page.
 fn fill(
     number: u32,
     s: Segment,
-    sum: f64,
     decision: Decision,
     page: &mut [u8],
     output: &mut [u32],
     first: &mut [u32],
     second: &mut [u32],
 ) -> Working
-    requires { Decided s sum decision (lent output.old first.old second.old) × (page_room ≤ length page.old) }
-    ensures { sheet_called result (lent output.new first.new second.new) page.new
-        ≡ printed number s.cycle (by_outcome (Worked sum) s (decision_for s) (lent output.old first.old second.old)) page.old }
+    requires { Decided s decision (lent output.old first.old second.old) × (page_room ≤ length page.old) }
+    ensures { sheet_called (Ok result) (lent output.new first.new second.new) page.new
+        ≡ printed number s.cycle (worked_of s decision) (filled_of s decision.pairs.rows (lent output.old first.old second.old)) page.old }
 {
-    let w = working::fill(s, sum, decision, output, first, second);
+    let w = working::fill(s, decision, output, first, second);
     sheet_page::worked_page(page, 0, number, s.cycle, w, &output[..]);
     w
 }
 
 // An accepted record: the volumes are decided, then the page buffer, before anything is written.
+#[tactic(auto, unfolding(refusal::specs::Refusal::need))]
 fn sheet_accepted(
     number: u32,
     s: Segment,
@@ -45,44 +45,30 @@ fn sheet_accepted(
     output: &mut [u32],
     first: &mut [u32],
     second: &mut [u32],
-) -> Working
+) -> Result<Working, Unworked>
     requires { Ranges s × Room s.cycle (lent output.old first.old second.old) }
     ensures { sheet_called result (lent output.new first.new second.new) page.new
-        ≡ sheet_by (decision_for s).outcome number s.cycle (by_decision s (decision_for s) (lent output.old first.old second.old))
+        ≡ sheet_by number s.cycle (by_decision s (decision_for s) (lent output.old first.old second.old))
         (lent output.old first.old second.old) page.old }
 {
-    let decision = working::decide(s);
-    let outcome = decision.outcome;
-    match outcome {
-        Outcome::Refused(_) => working_outcome::refused(outcome),
-        Outcome::Unsettled(_) => working_outcome::refused(outcome),
-        Outcome::Worked(sum) => {
-            if page.len() < PAGE_ROOM {
-                return working_outcome::refused(Outcome::Refused(21));
-            }
-            fill(number, s, sum, decision, page, output, first, second)
-        }
-    }
+    let decision = working::decide(s)?;
+    need(Refusal::PageRoom, PAGE_ROOM <= page.len())?;
+    Ok(fill(number, s, decision, page, output, first, second))
 }
 
 // Works a segment record as `working::work` does, and writes its page to the front of the page buffer. A buffer under PAGE_ROOM is
-// refused with 21, after the working's own refusals. Where it refuses, nothing is written.
+// refused with 21, after the working's own refusals. Where it does not work, nothing is written.
 pub fn sheet(
     bytes: &[u8],
     page: &mut [u8],
     output: &mut [u32],
     first: &mut [u32],
     second: &mut [u32],
-) -> Working
+) -> Result<Working, Unworked>
     ensures { Sheets bytes.now (lent output.old first.old second.old) page.old
         result (lent output.new first.new second.new) page.new }
 {
-    let accepted = working::accept(bytes, output.len(), first.len(), second.len());
-    match accepted {
-        Checked::Refused(n) => working_outcome::refused(Outcome::Refused(n)),
-        Checked::Valid(s) => {
-            let number = octets::word4_at(bytes, segment::NUMBER_AT);
-            sheet_accepted(number, s, page, output, first, second)
-        }
-    }
+    let s = working::accept(bytes, output.len(), first.len(), second.len())?;
+    let number = octets::word4_at(bytes, segment::NUMBER_AT);
+    sheet_accepted(number, s, page, output, first, second)
 }
