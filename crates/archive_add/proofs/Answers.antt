@@ -1,15 +1,14 @@
 -- Adding's answers, by what opening answered and by each test in turn.
-use Rattle.std.specs.Prelude.{ℕ, ◌+◌, ◌*◌, ◌≤◌, ◌<◌, ◌≡◌, Bool, true, List, [], ◌∷◌, ◌++◌, leb, ltb, length, take, drop, Ok, Err}
-use Rattle.std.proofs.Common.{arith, sym, ap, ◌∙◌, zero-add, append_assoc, append-nil, length-append, take_at, leb-true, ltb-true, eq-eqb, ne_eqb}
+use Rattle.std.specs.Prelude.{ℕ, ◌+◌, ◌*◌, ◌≤◌, ◌<◌, ◌≡◌, refl, Bool, true, false, eqb, List, [], ◌∷◌, ◌++◌, leb, ltb, length, take, drop, Ok, Err}
+use Rattle.std.proofs.Common.{arith, sym, ap, ◌∙◌, zero-add, append_assoc, append-nil, length-append, take_at, leb-true, eqb-true}
 use Rattle.std.proofs.Math.Nat.{mul-le-mul}
 use Rattle.refusal.specs.declared.Refusal.TheVariants.{Title, Order, Record, BufferRoom, Full}
-use Rattle.refusal.specs.Refusal.{need, both}
-use Rattle.refusal.specs.Peel.{Tested, Peeled, peel, ◌past◌, held_before}
+use Rattle.refusal.specs.declared.Refusal.{Refusal}
+use Rattle.refusal.specs.Refusal.{Or, need, both}
 use Rattle.octets.specs.Octets.{word4, bytes2, word2_bound}
 use Rattle.archive_format.specs.declared.Edition.{Edition}
-use Rattle.archive_format.specs.declared.Answer.TheVariants.{Value, Refused}
-use Rattle.archive_format.specs.Archive.{record_limit, title_limit, Filed, Sized, body, place_after, places, encode, title_fits, filed_from, decode}
-use Rattle.archive_format.specs.Archive.{single, add_to, add_of}
+use Rattle.archive_format.specs.Archive.{record_limit, title_limit, Filed, body, place_after, places, encode, title_fits, filed_from}
+use Rattle.archive_format.specs.Archive.{single, add_to, add_of, Writes}
 use Rattle.archive_format.specs.Words.{Bytes}
 use Rattle.archive_format.specs.Decoded.{Shaped, Fit, body_laid, places_laid}
 use Rattle.archive_format.proofs.Decoded.{decoded_is_fit}
@@ -17,8 +16,7 @@ use Rattle.archive_format.specs.Encoded.{length_places}
 use Rattle.archive_format.proofs.Encoded.{length_encode}
 use Rattle.archive_format.specs.Sizes.{body_bound}
 use Rattle.archive_format.specs.Joined.{body_append, body_next}
-use Rattle.archive_open.specs.declared.Opened.TheVariants.{Invalid}
-use Rattle.archive_open.specs.Opening.{opened_of, invalid, Held, held_run, held_fits}
+use Rattle.archive_open.specs.Opened.{Held, held_run, held_fits}
 use Rattle.buffer.specs.Buffer.{Wrote}
 use Rattle.buffer.proofs.Pieces.{wrote_fits}
 use Rattle.archive_write.specs.Writing.{record_bytes, grown, record_length}
@@ -58,17 +56,17 @@ module _ (e : Edition) (l : List ℕ) {count t last : ℕ} (h : Held e l count t
   bound = rw (counted, reached) (body_bound e.size h.fs fit.shaped)
 
   -- the old archive is small, whatever the buffer
-  pub held_small : Sized e.size → t + e.size + 2 * count ≤ 66134
-  held_small k =
+  pub held_small : t + e.size + 2 * count ≤ 66134
+  held_small =
       let few : count ≤ record_limit = rw h.count_is h.read.many in
-      let wide : e.size + 1 + title_limit ≤ 127 = omega arith in
+      let wide : e.size + 1 + title_limit ≤ 127 = omega (arith, e.sized) in
       omega (arith, bound, mul-le-mul few wide)
 
   -- two bytes hold the new trailer's place
-  pub held_next : (n : ℕ) → Sized e.size → count < record_limit → n ≤ title_limit → t + e.size + 1 + n < word2_bound
-  held_next n k m s =
+  pub held_next : (n : ℕ) → count < record_limit → n ≤ title_limit → t + e.size + 1 + n < word2_bound
+  held_next n m s =
       let few : count + 1 ≤ record_limit = omega arith in
-      let wide : e.size + 1 + title_limit ≤ 127 = omega arith in
+      let wide : e.size + 1 + title_limit ≤ 127 = omega (arith, e.sized) in
       omega (arith, bound, mul-le-mul few wide)
 
   module _ (b ti : List ℕ) where
@@ -99,62 +97,39 @@ module _ (e : Edition) (l : List ℕ) {count t last : ℕ} (h : Held e l count t
 
 -- ---- the answers
 
+-- a test behind which two answers agree where it holds
+need_if : {A : Type 0} (r : Refusal) (t : Bool) {x y : Or A} → (t ≡ true → x ≡ y) → need r t x ≡ need r t y
+unfolding need
+need_if r true f = f refl
+need_if r false f = refl
+
+-- a refusal, with the buffer as it was
+pub refused_as : {x : Or (List ℕ)} {out : List ℕ} {r : Or ℕ} (m : Refusal) → r ≡ Err m → x ≡ Err m → Writes x out r out
+refused_as m e f = rw (e, f) (record { answer = refl; buffer = refl })
+
 pub short_title : (ti : List ℕ) → title_fits ti ≡ true → length ti ≤ title_limit
 short_title ti f = leb-true _ _ (both _ _ f).0
 
-pub add_refused : (e : Edition) (l b ti out : List ℕ) (n : ℕ) → add_of e l b ti (length out) ≡ Err n → Adds e l b ti out (Refused n) out
-add_refused e l b ti out n r = record { answer = sym (rw r); buffer = sym (rw r) }
+module _ {e : Edition} {l : List ℕ} (b ti : List ℕ) {count t last : ℕ} (h : Held e l count t last) (hb : Bytes l) where
+  -- the tests in order, by what is known of the archive; behind them is what is written
+  pub add_tests : (room : ℕ) → add_of e l b ti room
+      ≡ need Record (eqb (length b) e.size)
+      (need Title (title_fits ti)
+      (need Order (ltb last (word4 b 0))
+      (need BufferRoom (leb (more_length e.size count t (length ti)) room)
+      (need Full (ltb count record_limit)
+      (Ok (grown e l count t b ti))))))
+  unfolding add_of add_to
+  add_tests room =
+      rw h.is
+      (need_if Record (eqb (length b) e.size)
+      (λ s. let sized : length b ≡ e.size = eqb-true _ _ s in
+      rw (← h.last_is, more_length_lem e l h b ti sized, ← counted e l h, ← grown_is e l h b ti hb)))
 
-module _ (e : Edition) (l b ti : List ℕ) where
-  pub add_invalid : (room n : ℕ) → opened_of (decode e l) ≡ Invalid n → add_of e l b ti room ≡ Err n
-  unfolding add_of
-  add_invalid room n o = rw (invalid e l n o)
-
-  module _ {count t last : ℕ} (h : Held e l count t last) where
-    pub add_sized : (room : ℕ) → (length b ≡ e.size → ⊥) → add_of e l b ti room ≡ Err Record
-    unfolding add_of add_to need
-    add_sized room f = rw (h.is, ne_eqb _ _ f)
-
-    module _ (hb : Bytes l) (sized : length b ≡ e.size) where
-      -- the tests of a record of the right size, by what is known of the archive
-      pub add_tests : (room : ℕ) {fits : Bool} {number : ℕ} → fits ≡ title_fits ti → number ≡ word4 b 0
-          → add_of e l b ti room
-          ≡ need Title fits
-          (need Order (ltb last number)
-          (need BufferRoom (leb (more_length e.size count t (length ti)) room)
-          (need Full (ltb count record_limit)
-          (Ok (grown e l count t b ti)))))
-      unfolding add_of add_to need
-      add_tests room ef en = rw (h.is, eq-eqb _ _ sized, ← h.last_is, more_length_lem e l h b ti sized, ← counted e l h, ← grown_is e l h b ti hb, ef, en)
-
-      -- the four tests peeled off in order; behind them is what is written
-      pub add_tested : (room : ℕ) {fits : Bool} {number : ℕ} → fits ≡ title_fits ti → number ≡ word4 b 0 → {m1 m2 m3 m4 : ℕ}
-          → Tested 0 fits 4 m1 → Tested m1 (ltb last number) 5 m2 → Tested m2 (leb (more_length e.size count t (length ti)) room) 17 m3
-          → Tested m3 (ltb count record_limit) 18 m4 → Peeled (add_of e l b ti room) m4 (Ok (grown e l count t b ti))
-      add_tested room ef en t1 t2 t3 t4 = peel (add_tests room ef en) past t1 past t2 past t3 past t4
-
-      pub add_done : (out : List ℕ) → more_length e.size count t (length ti) ≤ length out → add_of e l b ti (length out) ≡ Ok (grown e l count t b ti)
-          → {r : ℕ} {out' : List ℕ} → Wrote out 0 (grown e l count t b ti) out' r → Adds e l b ti out (Value r) out'
-      add_done out room y w =
-          let long : length (grown e l count t b ti) ≡ more_length e.size count t (length ti) = rw (grown_is e l h b ti hb) (more_length_lem e l h b ti sized) in
-          let f : _ = wrote_fits w (omega (arith, long)) in
-          record { answer = rw y (ap (λ (z : ℕ). Value z) (f.1 ∙ zero-add (length (grown e l count t b ti)))); buffer = rw y (f.0 ∙ rw zero-add) }
-
--- where none of the four tests failed: what `grow` asks, from the last test to the first
-pub record Passed (size count t title room : ℕ) : Type 0 where
-  pub few : count < record_limit
-  pub enough : more_length size count t title ≤ room
-  pub short : title ≤ title_limit
-
-pub passed : (size count t room : ℕ) (ti : List ℕ) {fits above : Bool} → fits ≡ title_fits ti → {m1 m2 m3 m4 : ℕ}
-    → Tested 0 fits 4 m1 → Tested m1 above 5 m2 → Tested m2 (leb (more_length size count t (length ti)) room) 17 m3
-    → Tested m3 (ltb count record_limit) 18 m4 → m4 ≡ 0 → Passed size count t (length ti) room
-passed size count t room ti ef t1 t2 t3 t4 z =
-    let p4 = held_before t4 z in
-    let p3 = held_before t3 p4.0 in
-    let p2 = held_before t2 p3.0 in
-    record {
-      few = ltb-true _ _ p4.1;
-      enough = leb-true _ _ p3.1;
-      short = short_title ti (sym ef ∙ (held_before t1 p2.0).1);
-    }
+  pub add_done : (out : List ℕ) → length b ≡ e.size → more_length e.size count t (length ti) ≤ length out
+      → Ok (grown e l count t b ti) ≡ add_of e l b ti (length out)
+      → {r : ℕ} {out' : List ℕ} → Wrote out 0 (grown e l count t b ti) out' r → Adds e l b ti out (Ok r) out'
+  add_done out sized room y w =
+      let long : length (grown e l count t b ti) ≡ more_length e.size count t (length ti) = rw (grown_is e l h b ti hb) (more_length_lem e l h b ti sized) in
+      let f : _ = wrote_fits w (omega (arith, long)) in
+      rw (← y) (record { answer = ap Ok (f.1 ∙ zero-add (length (grown e l count t b ti))); buffer = f.0 ∙ rw zero-add })

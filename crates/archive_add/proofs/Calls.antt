@@ -4,8 +4,7 @@ use Rattle.std.proofs.Common.{arith, sym, ap, ◌∙◌, append-nil}
 use Rattle.std.proofs.Math.Seq.{append_snoc}
 use Rattle.refusal.specs.Refusal.{Or, ok_refused}
 use Rattle.archive_format.specs.declared.Edition.{Edition}
-use Rattle.archive_format.specs.declared.Answer.TheVariants.{Value, Refused}
-use Rattle.archive_format.specs.Archive.{Filed, encode, decode, add_of, count_of, answer_of, overwrite}
+use Rattle.archive_format.specs.Archive.{Filed, encode, decode, add_of, count_of, overwrite}
 use Rattle.archive_format.specs.Words.{Bytes}
 use Rattle.archive_format.specs.Decoded.{Fit}
 use Rattle.archive_format.proofs.Decoded.{decoded_is_fit, decoded_is_encoding}
@@ -50,7 +49,7 @@ module _ (e : Edition) (outs : ℕ → List ℕ) where
         let snoc : (fs ++ (g ∷ [])) ++ rest ≡ fs ++ (g ∷ rest) = append_snoc fs g rest in
         grown_is (suc j) _ rest x (fs ++ (g ∷ [])) on next (rw snoc f) (rw snoc h) ∙ rw snoc
 
-  pub every_archive : (l : List ℕ) (n : ℕ) (x : Or (List ℕ)) → Bytes l → answer_of (count_of e l) ≡ Value n → ((i : ℕ) → length l ≤ length (outs i))
+  pub every_archive : (l : List ℕ) (n : ℕ) (x : Or (List ℕ)) → Bytes l → count_of e l ≡ Ok n → ((i : ℕ) → length l ≤ length (outs i))
       → Calls e outs 0 (encode e []) (records_from e l n 0) x → x ≡ Ok l
   every_archive l n x hb a enough c =
       let fs : List Filed = records_from e l n 0 in
@@ -70,10 +69,10 @@ module _ (e : Edition) (outs : ℕ → List ℕ) where
     where
       go : (x : Or (List ℕ)) → add_of e l f.bytes f.title (length (outs i)) ≡ x → ((next : List ℕ) → Made (suc i) next fs) → Made i l (f ∷ fs)
       go (Err m) a on =
-          let call : Adds e l f.bytes f.title (outs i) (Refused m) (outs i) = record { answer = sym (rw a); buffer = sym (rw a) } in
+          let call : Adds e l f.bytes f.title (outs i) (Err m) (outs i) = record { answer = sym (rw a); buffer = sym (rw a) } in
           record { end = Err m; calls = stopped {f = f} m (outs i) call }
       go (Ok new) a on =
           let out' : List ℕ = overwrite (Ok new) (outs i) in
           let rest : Made (suc i) (take (length new) out') fs = on (take (length new) out') in
-          let call : Adds e l f.bytes f.title (outs i) (Value (length new)) out' = record { answer = sym (rw a); buffer = sym (rw a) } in
+          let call : Adds e l f.bytes f.title (outs i) (Ok (length new)) out' = record { answer = sym (rw a); buffer = sym (rw a) } in
           record { end = rest.end; calls = then {f = f} (length new) out' call rest.calls }

@@ -2,58 +2,51 @@
 #![tactic(auto)]
 
 ghost use Rattle.std.specs.Prelude.{◌≡◌, length};
-ghost use Rattle.archive_format.specs.Archive.{Sized, title_fits, first_edition};
+ghost use Rattle.archive_format.specs.Archive.{title_fits, first_edition};
 ghost use Rattle.archive_add.specs.Adds.{Adds};
 
-use archive_format::{Answer, Edition, FIRST_EDITION, RECORD_LIMIT, TITLE_LIMIT};
-use archive_open::Opened;
-use refusal::first_failed;
+use archive_format::{Edition, RECORD_LIMIT, TITLE_LIMIT, first_edition};
+use archive_open::Archive;
+use refusal::{Refusal, need};
 
 // A title that is not too long, of bytes from 32 to 126.
 fn title_fits(title: &[u8]) -> bool
     ensures { result ≡ title_fits title.now }
 {
-    let clean = archive_open::printable(title);
-    (title.len() <= TITLE_LIMIT) & clean
+    title.len() <= TITLE_LIMIT && archive_open::printable(title)
 }
 
-fn add_in(e: Edition, s: &[u8], segment: &[u8], title: &[u8], out: &mut [u8]) -> Answer
-    requires { Sized e.size }
+// Every test stands before the first byte that is written.
+#[tactic(auto, unfolding(archive_format::specs::Archive::add_of, refusal::specs::Refusal::need))]
+fn add_in(
+    e: Edition,
+    s: &[u8],
+    segment: &[u8],
+    title: &[u8],
+    out: &mut [u8],
+) -> Result<usize, Refusal>
     ensures { Adds e s.now segment.now title.now out.old result out.new }
 {
-    let size = e.size;
-    let o = archive_open::open(e, s);
-    match o {
-        Opened::Invalid(n) => {
-            return Answer::Refused(n);
-        }
-        Opened::Valid {
-            count,
-            trailer,
-            last,
-        } => {
-            if segment.len() != size {
-                return Answer::Refused(6);
-            }
-            let fits = title_fits(title);
-            let number = octets::word4_at(segment, segment::NUMBER_AT);
-            let length = trailer + size + 1 + title.len() + 2 * count + 8;
-            let failed = first_failed(0, fits, 4);
-            let failed = first_failed(failed, last < number, 5);
-            let failed = first_failed(failed, length <= out.len(), 17);
-            let failed = first_failed(failed, count < RECORD_LIMIT, 18);
-            if failed != 0 {
-                return Answer::Refused(failed);
-            }
-            let n = archive_write::grow(e, s, count, trailer, segment, title, out);
-            return Answer::Value(n);
-        }
-    }
+    let archive = Archive::open(e, s)?;
+    need(Refusal::Record, segment.len() == e.size)?;
+    need(Refusal::Title, title_fits(title))?;
+    let number = octets::word4_at(segment, segment::NUMBER_AT);
+    need(Refusal::Order, archive.last < number)?;
+    let length = archive.trailer + e.size + 1 + title.len() + 2 * archive.count + 8;
+    need(Refusal::BufferRoom, length <= out.len())?;
+    need(Refusal::Full, archive.count < RECORD_LIMIT)?;
+    let n = archive_write::grow(e, s, archive.count, archive.trailer, segment, title, out);
+    Ok(n)
 }
 
 // Writes the archive with one record more to the buffer and returns its length; a refusal writes nothing, and bytes beyond stay.
-pub fn add(archive: &[u8], segment: &[u8], title: &[u8], buffer: &mut [u8]) -> Answer
+pub fn add(
+    archive: &[u8],
+    segment: &[u8],
+    title: &[u8],
+    buffer: &mut [u8],
+) -> Result<usize, Refusal>
     ensures { Adds first_edition archive.now segment.now title.now buffer.old result buffer.new }
 {
-    add_in(FIRST_EDITION, archive, segment, title, buffer)
+    add_in(first_edition(), archive, segment, title, buffer)
 }

@@ -1,18 +1,17 @@
 -- The calls' answers on an archive that reads.
-use Rattle.std.specs.Prelude.{ℕ, ◌+◌, ◌*◌, ◌-◌, ◌≤◌, ◌<◌, ◌≡◌, refl, Bool, true, false, ltb, List, length, take, drop, get_or, Ok, Err}
-use Rattle.std.proofs.Common.{arith, sym, ◌∙◌, ltb-true, ltb-false}
+use Rattle.std.specs.Prelude.{ℕ, ◌+◌, ◌*◌, ◌≤◌, ◌≡◌, refl, Bool, true, false, ltb, List, length, Ok}
+use Rattle.std.proofs.Common.{arith, sym, ltb-true, ltb-false}
 use Rattle.refusal.specs.declared.Refusal.TheVariants.{Record}
 use Rattle.refusal.specs.Refusal.{need}
 use Rattle.octets.specs.Octets.{word2}
 use Rattle.archive_format.specs.declared.Edition.{Edition}
-use Rattle.archive_format.specs.declared.TitlePart.{TitlePart}
-use Rattle.archive_format.specs.Archive.{filed_from, count_of, place_in, place_of, find_in, find_of, title_of, title_part_of}
+use Rattle.archive_format.specs.Archive.{filed_from, count_of, place_in, place_of, find_in, find_of}
 use Rattle.archive_format.specs.Reading.{filed_length}
 use Rattle.archive_format.specs.Finding.{place_at, place_beyond}
 use Rattle.archive_open.specs.declared.Archive.{Archive}
 use Rattle.archive_open.specs.Opened.{Opens, Held, held, held_run, held_fits, held_filed}
 
-module _ (e : Edition) (l : List ℕ) (a : Archive) (o : Opens e l (Ok a)) where
+module _ {e : Edition} {l : List ℕ} (a : Archive) (o : Opens e l (Ok a)) where
   opened : Held e l a.count a.trailer a.last
   opened = held a o
 

@@ -1,69 +1,83 @@
--- What opening refuses, then 6; the four tests behind it are peeled off in order, and behind them the archive is written.
-use Rattle.std.proofs.Common.{arith, sym, length}
-use Rattle.refusal.specs.Peel.{peeled_refused, peeled_passed}
-use Rattle.archive_open.specs.Opening.{held, held_fits}
-use Rattle.archive_add.proofs.Answers.{held_small, held_next, add_refused, add_invalid, add_sized, add_tested, add_done, passed}
+-- What opening refuses; then the tests in order, and behind them the archive is written.
+use Rattle.std.proofs.Common.{rules, arith, length, leb-true, ltb-true, eqb-true, sym, ◌∙◌}
+use Rattle.refusal.specs.Refusal.{need, ladder, holds}
+use Rattle.archive_open.specs.Opened.{held, held_fits}
+use Rattle.archive_add.proofs.Answers.{held_small, held_next, short_title, refused_as, add_tests, add_done}
 use Rattle.archive_add.proofs.add_in.Goals as goal
 
-pub returns-in-Invalid : goal.returns-in-Invalid
-returns-in-Invalid c = add_refused _ _ _ _ _ _ (add_invalid _ _ _ _ _ _ (sym c.in-Invalid.ensures))
+pub returns-in_err-need : goal.returns-in_err-need
+unfolding need
+returns-in_err-need c =
+    refused_as c.in_err-need.field-0.0 (search rules)
+    (search (rules, ladder, add_tests c.args.segment.now c.args.title.now (held c.in_ok-archive.archive c.in_ok-archive.ensures) (λ i. omega (arith, c.type_inv.s i)) (length c.args.out.now)))
 
-pub returns-then-segment-size : goal.returns-then-segment-size
-returns-then-segment-size c = add_refused _ _ _ _ _ _ (add_sized _ _ _ _ (held (sym c.in-Valid.ensures)) _ c.if-segment-size.true)
+pub returns-in_err-need-2 : goal.returns-in_err-need-2
+unfolding need
+returns-in_err-need-2 c =
+    refused_as c.in_err-need-2.field-0.0 (search rules)
+    (search (rules, ladder, add_tests c.args.segment.now c.args.title.now (held c.in_ok-archive.archive c.in_ok-archive.ensures) (λ i. omega (arith, c.type_inv.s i)) (length c.args.out.now)))
+
+pub returns-in_err-need-3 : goal.returns-in_err-need-3
+unfolding need
+returns-in_err-need-3 c =
+    refused_as c.in_err-need-3.field-0.0 (search rules)
+    (search (rules, ladder, add_tests c.args.segment.now c.args.title.now (held c.in_ok-archive.archive c.in_ok-archive.ensures) (λ i. omega (arith, c.type_inv.s i)) (length c.args.out.now)))
 
 -- the new length is no number that wraps
 pub overflow_add-length : goal.overflow_add-length
-overflow_add-length c = omega (arith, held_small c.args.e c.args.s.now (held (sym c.in-Valid.ensures)) c.requires)
+overflow_add-length c = omega (arith, held_small _ _ (held c.in_ok-archive.archive c.in_ok-archive.ensures))
 
-pub overflow_add-length-in-Valid : goal.overflow_add-length-in-Valid
-overflow_add-length-in-Valid c = omega (arith, held_small c.args.e c.args.s.now (held (sym c.in-Valid.ensures)) c.requires)
+pub overflow_add-length-2 : goal.overflow_add-length-2
+overflow_add-length-2 c = omega (arith, held_small _ _ (held c.in_ok-archive.archive c.in_ok-archive.ensures))
 
-pub overflow_add-length-in-Valid-2 : goal.overflow_add-length-in-Valid-2
-overflow_add-length-in-Valid-2 c = omega (arith, held_small c.args.e c.args.s.now (held (sym c.in-Valid.ensures)) c.requires)
+pub overflow_add-length-3 : goal.overflow_add-length-3
+overflow_add-length-3 c = omega (arith, held_small _ _ (held c.in_ok-archive.archive c.in_ok-archive.ensures))
 
 pub overflow_mul-length : goal.overflow_mul-length
-overflow_mul-length c = omega (arith, held_small c.args.e c.args.s.now (held (sym c.in-Valid.ensures)) c.requires)
+overflow_mul-length c = omega (arith, held_small _ _ (held c.in_ok-archive.archive c.in_ok-archive.ensures))
 
-pub overflow_add-length-in-Valid-3 : goal.overflow_add-length-in-Valid-3
-overflow_add-length-in-Valid-3 c = omega (arith, held_small c.args.e c.args.s.now (held (sym c.in-Valid.ensures)) c.requires)
+pub overflow_add-length-4 : goal.overflow_add-length-4
+overflow_add-length-4 c = omega (arith, held_small _ _ (held c.in_ok-archive.archive c.in_ok-archive.ensures))
 
-pub overflow_add-length-in-Valid-4 : goal.overflow_add-length-in-Valid-4
-overflow_add-length-in-Valid-4 c = omega (arith, held_small c.args.e c.args.s.now (held (sym c.in-Valid.ensures)) c.requires)
+pub overflow_add-length-5 : goal.overflow_add-length-5
+overflow_add-length-5 c = omega (arith, held_small _ _ (held c.in_ok-archive.archive c.in_ok-archive.ensures))
 
-pub returns-then-failed-ne0 : goal.returns-then-failed-ne0
-returns-then-failed-ne0 c =
-    let h = held {e = c.args.e} {l = c.args.s.now} (sym c.in-Valid.ensures) in
-    let tested =
-    add_tested _ _ _ _ h (λ i. omega (arith, c.type_inv.s i)) c.if-segment-size.false _ c.title_fits-fits.ensures c.word4_at-number.ensures
-    c.first_failed-failed.ensures c.first_failed-failed-in-Valid.ensures c.first_failed-failed-in-Valid-2.ensures
-    c.first_failed-failed-in-Valid-3.ensures in
-    add_refused _ _ _ _ _ _ (peeled_refused tested c.if-failed-ne0.true)
+pub returns-in_err-need-4 : goal.returns-in_err-need-4
+unfolding need
+returns-in_err-need-4 c =
+    let record-holds = holds _ _ _ _ c.need.ensures c.in_ok-need.was in
+    let title-holds = sym c.title_fits.ensures ∙ holds _ _ _ _ c.need-2.ensures c.in_ok-need-2.was in
+    let order-holds = rw c.word4_at-number.ensures at (holds _ _ _ _ c.need-3.ensures c.in_ok-need-3.was) in
+    refused_as c.in_err-need-4.field-0.0 (search rules)
+    (add_tests c.args.segment.now c.args.title.now (held c.in_ok-archive.archive c.in_ok-archive.ensures) (λ i. omega (arith, c.type_inv.s i)) (length c.args.out.now)
+    ∙ rw (record-holds, title-holds, order-holds) (search (rules, ladder)))
+
+pub returns-in_err-need-5 : goal.returns-in_err-need-5
+unfolding need
+returns-in_err-need-5 c =
+    refused_as c.in_err-need-5.field-0.0 (search rules)
+    (search (rules, ladder, add_tests c.args.segment.now c.args.title.now (held c.in_ok-archive.archive c.in_ok-archive.ensures) (λ i. omega (arith, c.type_inv.s i)) (length c.args.out.now)))
 
 pub grow-n-requires : goal.grow-n-requires
 grow-n-requires c =
-    let h = held {e = c.args.e} {l = c.args.s.now} (sym c.in-Valid.ensures) in
-    let p =
-    passed c.args.e.size c.in-Valid.count c.in-Valid.trailer (length c.args.out.now) c.args.title.now c.title_fits-fits.ensures
-    c.first_failed-failed.ensures c.first_failed-failed-in-Valid.ensures c.first_failed-failed-in-Valid-2.ensures
-    c.first_failed-failed-in-Valid-3.ensures c.if-failed-ne0.false in
+    let h = held c.in_ok-archive.archive c.in_ok-archive.ensures in
+    let sized = eqb-true _ _ (holds _ _ _ _ c.need.ensures c.in_ok-need.was) in
+    let short = short_title c.args.title.now (sym c.title_fits.ensures ∙ holds _ _ _ _ c.need-2.ensures c.in_ok-need-2.was) in
+    let room = leb-true _ _ (holds _ _ _ _ c.need-4.ensures c.in_ok-need-4.was) in
+    let few = ltb-true _ _ (holds _ _ _ _ c.need-5.ensures c.in_ok-need-5.was) in
     record {
-      few = p.few;
-      short = omega (arith, p.short);
-      placed = omega (arith, held_next _ _ h _ c.requires p.few p.short, c.if-segment-size.false);
+      few = few;
+      short = omega (arith, short);
+      placed = omega (arith, held_next _ _ h _ few short, sized);
       held = omega (arith, held_fits _ _ h);
-      enough = omega (arith, p.enough, c.if-segment-size.false);
+      enough = omega (arith, room, sized);
     }
 
-pub returns-in-Valid : goal.returns-in-Valid
-returns-in-Valid c =
-    let h = held {e = c.args.e} {l = c.args.s.now} (sym c.in-Valid.ensures) in
-    let tested =
-    add_tested _ _ _ _ h (λ i. omega (arith, c.type_inv.s i)) c.if-segment-size.false _ c.title_fits-fits.ensures c.word4_at-number.ensures
-    c.first_failed-failed.ensures c.first_failed-failed-in-Valid.ensures c.first_failed-failed-in-Valid-2.ensures
-    c.first_failed-failed-in-Valid-3.ensures in
-    let p =
-    passed c.args.e.size c.in-Valid.count c.in-Valid.trailer (length c.args.out.now) c.args.title.now c.title_fits-fits.ensures
-    c.first_failed-failed.ensures c.first_failed-failed-in-Valid.ensures c.first_failed-failed-in-Valid-2.ensures
-    c.first_failed-failed-in-Valid-3.ensures c.if-failed-ne0.false in
-    add_done _ _ _ _ h (λ i. omega (arith, c.type_inv.s i)) c.if-segment-size.false _ p.enough (peeled_passed tested c.if-failed-ne0.false)
+pub returns : goal.returns
+unfolding need
+returns c =
+    let sized = eqb-true _ _ (holds _ _ _ _ c.need.ensures c.in_ok-need.was) in
+    let room = leb-true _ _ (holds _ _ _ _ c.need-4.ensures c.in_ok-need-4.was) in
+    add_done _ _ (held c.in_ok-archive.archive c.in_ok-archive.ensures) (λ i. omega (arith, c.type_inv.s i)) c.args.out.now sized room
+    (search (rules, ladder, add_tests c.args.segment.now c.args.title.now (held c.in_ok-archive.archive c.in_ok-archive.ensures) (λ i. omega (arith, c.type_inv.s i)) (length c.args.out.now)))
     c.grow-n.ensures

@@ -3,4 +3,4 @@ use Rattle.archive_read.proofs.Answers.{counted}
 use Rattle.archive_read.proofs.count_in.Goals as goal
 
 pub returns : goal.returns
-returns c = counted _ _ _ c.in_ok-archive.ensures
+returns c = counted c.in_ok-archive.archive c.in_ok-archive.ensures

@@ -4,4 +4,4 @@ use Rattle.archive_read.proofs.Answers.{found}
 use Rattle.archive_read.proofs.find_in.Goals as goal
 
 pub returns : goal.returns
-returns c = c.seek.ensures ∙ found _ _ _ c.in_ok-archive.ensures _
+returns c = c.seek.ensures ∙ found c.in_ok-archive.archive c.in_ok-archive.ensures _
