@@ -8,6 +8,7 @@ use movements::Counts;
 use segment::{Entry, Segment};
 
 // An entry's profile, from its discharge volume, over a run of the cycle's length.
+#[tactic(auto, unfolding(crate::specs::Entries::entry_profile), using(crate::specs::Laws::discharge_volume_le))]
 pub fn fill_profile(c: u32, e: Entry, o: u32, run: &mut [u32])
     requires { ProfileFits c e o run.old }
     ensures { run.new ≡ entry_profile c e }
@@ -16,14 +17,15 @@ pub fn fill_profile(c: u32, e: Entry, o: u32, run: &mut [u32])
 }
 
 // The three profiles, from the discharge volumes, to the front of a lent profile: runs of the cycle's length, entries in order.
+#[tactic(auto, unfolding(crate::specs::Entries::entry_profiles, metering::specs::Metering::discharge_volumes))]
 pub fn fill_profiles(s: Segment, o: Counts, profile: &mut [u32])
     requires { ProfilesFit s o profile.old }
     ensures { profile.new ≡ entry_profiles s profile.old }
 {
-    let one = s.cycle as usize;
-    let two = one + one;
-    let three = two + one;
-    fill_profile(s.cycle, s.left, o.left, &mut profile[0..one]);
-    fill_profile(s.cycle, s.through, o.through, &mut profile[one..two]);
-    fill_profile(s.cycle, s.right, o.right, &mut profile[two..three]);
+    let c = s.cycle as usize;
+    let (left, rest) = profile.split_at_mut(c);
+    let (through, rest) = rest.split_at_mut(c);
+    fill_profile(s.cycle, s.left, o.left, left);
+    fill_profile(s.cycle, s.through, o.through, through);
+    fill_profile(s.cycle, s.right, o.right, &mut rest[..c]);
 }

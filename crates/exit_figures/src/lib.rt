@@ -78,5 +78,7 @@ pub fn blocked_steps(headway: u32, run: &[u32]) -> u32
     requires { length run.now < step_bound }
     ensures { result ≡ blocked_steps headway run.now }
 {
-    run.iter().filter(|flow| is_blocked(**flow, headway)).count() as u32
+    run.iter()
+        .filter(|flow| is_blocked(**flow, headway))
+        .count() as u32
 }

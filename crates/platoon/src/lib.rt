@@ -66,11 +66,7 @@ fn release(green: Green, queue: Queue, run: &mut [u32])
 }
 
 // The queue of a cycle of c steps at a discharge volume: what does not arrive on green waits when green starts.
-#[tactic(auto, unfolding(
-    crate::specs::Discharge::queue_of,
-    crate::specs::Discharge::carried,
-    crate::specs::Discharge::green_arrivals
-))]
+#[tactic(auto, unfolding(crate::specs::Discharge::queue_of, crate::specs::Discharge::carried, crate::specs::Discharge::green_arrivals))]
 fn queue_of(c: u32, saturation: u32, arriving: u32, volume: u32) -> Queue
     requires { (c < step_bound) × (saturation ≤ flow_limit) × (arriving ≤ most_arriving) × (volume ≤ entry_limit) }
     ensures { result ≡ queue_of c saturation arriving volume }
