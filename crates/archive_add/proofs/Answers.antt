@@ -18,7 +18,7 @@ use Rattle.archive_format.specs.Sizes.{body_bound}
 use Rattle.archive_format.specs.Joined.{body_append, body_next}
 use Rattle.archive_open.specs.declared.Opened.TheVariants.{Invalid}
 use Rattle.archive_open.specs.Opening.{opened_of, invalid, Held, held_run, held_fits}
-use Rattle.buffer.specs.Buffer.{Wrote}
+use Rattle.buffer.specs.Buffer.{WroteAt}
 use Rattle.buffer.proofs.Pieces.{wrote_fits}
 use Rattle.archive_write.specs.Writing.{record_bytes, grown, record_length}
 use Rattle.archive_add.specs.Adds.{Adds}
@@ -133,7 +133,7 @@ module _ (e : Edition) (l b ti : List ℕ) where
       add_tested room ef en t1 t2 t3 t4 = peel (add_tests room ef en) past t1 past t2 past t3 past t4
 
       pub add_done : (out : List ℕ) → more_length e.size count t (length ti) ≤ length out → add_of e l b ti (length out) ≡ ok (grown e l count t b ti)
-          → {r : ℕ} {out' : List ℕ} → Wrote out 0 (grown e l count t b ti) out' r → Adds e l b ti out (Value r) out'
+          → {r : ℕ} {out' : List ℕ} → WroteAt out 0 (grown e l count t b ti) out' r → Adds e l b ti out (Value r) out'
       add_done out room y w =
           let long : length (grown e l count t b ti) ≡ more_length e.size count t (length ti) = rw (grown_is e l h b ti hb) (more_length_lem e l h b ti sized) in
           let f : _ = wrote_fits w (omega (arith, long)) in

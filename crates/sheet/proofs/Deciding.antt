@@ -3,7 +3,7 @@ use Rattle.std.specs.Prelude.{ℕ, ◌+◌, ◌^◌, ◌≤◌, ◌<◌, ◌≡�
 use Rattle.std.proofs.Common.{arith, ap, subst, ◌∙◌}
 use Rattle.refusal.specs.Refusal.{false_true}
 use Rattle.octets.specs.Octets.{word4}
-use Rattle.buffer.specs.Buffer.{Wrote}
+use Rattle.buffer.specs.Buffer.{WroteAt}
 use Rattle.buffer.proofs.Pieces.{wrote_fits}
 use Rattle.segment.specs.declared.Segment.{Segment}
 use Rattle.segment.specs.Layout.{number_at}
@@ -35,7 +35,7 @@ use Rattle.sheet.proofs.Laws.{beneath, page_laid_out, page_told}
 
 pub sheet_filled : {s : Segment} {x : Float} {d : Decision} {p : Profiles} → Decided s x d p → (number : ℕ) → number < 2 ^ 32 →
     {w : Working} {p' : Profiles} → called w p' ≡ by_outcome (Worked x) s (decision_for s) p → (page : List ℕ) → page_room ≤ length page →
-    {page' : List ℕ} {q : ℕ} → Wrote page 0 (worked_page number s.cycle w p'.output) page' q →
+    {page' : List ℕ} {q : ℕ} → WroteAt page 0 (worked_page number s.cycle w p'.output) page' q →
     sheet_called w p' page' ≡ printed number s.cycle (by_outcome (Worked x) s (decision_for s) p) page
 sheet_filled {s} {x} {d} {p} h number four {w} {p'} e page room {page'} v =
     let text = worked_page number s.cycle w p'.output in

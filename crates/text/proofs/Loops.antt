@@ -1,9 +1,9 @@
 -- The loop that spells a number's digits.
 use Rattle.std.specs.Prelude.{ℕ, suc, ◌+◌, ◌-◌, ◌/◌, ◌%◌, ◌≤◌, ◌<◌, ◌≡◌, List, ◌∷◌, ◌++◌, length, take, drop, set}
 use Rattle.std.proofs.Common.{arith, sym, ◌∙◌, append_assoc, length-drop, eq-eqb}
-use Rattle.std.proofs.Math.ListN.{length-set, drop_of_length-le}
+use Rattle.std.proofs.Math.ListN.{length-set}
 use Rattle.std.proofs.Math.Seq.{set_split, drop_at, length-take-le}
-use Rattle.std.proofs.lemmas.List.{append-nil, take_all}
+use Rattle.std.proofs.lemmas.List.{take_all}
 use borrow.Author.Tests.{ne_eqb}
 use Rattle.text.specs.Text.{Spelt, decimal, digits}
 
@@ -15,9 +15,6 @@ pub record Spelling (n : ℕ) (d : List ℕ) (k rest : ℕ) : Type 0 where
 
 drop_set : (d : List ℕ) (j v : ℕ) → j < length d → drop j (set d j v) ≡ v ∷ drop (suc j) d
 drop_set d j v h = rw (set_split d j v h) (drop_at (take j d) (v ∷ drop (suc j) d) j (length-take-le j d (omega arith)))
-
-pub digit_start : (n : ℕ) (d : List ℕ) → length d ≡ 20 → Spelling n d 20 n
-digit_start n d h = record { within = omega arith; long = h; same = sym (rw (drop_of_length-le d {i = 20} (omega arith), append-nil)) }
 
 module _ {n : ℕ} {d : List ℕ} {k rest : ℕ} (r : Spelling n d k rest) where
   whole : 0 < k → decimal n ≡ digits (suc (k - 1)) rest ++ drop (suc (k - 1)) d

@@ -3,4 +3,4 @@ use Rattle.text.proofs.Columns.{column_put}
 use Rattle.text.proofs.append_column.Goals as goal
 
 pub returns : goal.returns
-returns c = column_put _ c.spell-start.ensures c.lacking.ensures c.append_blanks-p.ensures c.put.ensures
+returns c = column_put _ c.spell-start.ensures c.saturating_sub.ensures c.append_blanks.ensures c.put.ensures
