@@ -1,38 +1,20 @@
 // Numbers, labels, blanks and columns put into a lent buffer, as much of them as it has room for.
 #![tactic(auto)]
 
-ghost use Rattle.std.specs.Prelude.{◌≡◌, ◌≤◌, ◌<◌, length};
+ghost use Rattle.std.specs.Prelude.{◌≤◌, ◌<◌};
 ghost use Rattle.buffer.specs.Buffer.{Wrote};
-ghost use Rattle.text.specs.Text.{Spelt, blanks, column, columns, decimal, field, most_blanks};
+ghost use Rattle.text.specs.Text.{blanks, column, columns, decimal, field, most_blanks};
 
 use buffer::Writer;
 
 // The most blanks of one call.
 const BLANK_ROOM: usize = 72;
 
-// The decimal digits of n at the end of twenty places; where they start is handed back.
-fn spell(n: u64, places: &mut [u8]) -> usize
-    requires { length places.old ≡ 20 }
-    ensures { Spelt n places.new result }
-{
-    let mut rest = n;
-    for k in (0..20).rev() {
-        places[k] = b'0' + (rest % 10) as u8;
-        rest /= 10;
-        if rest == 0 {
-            return k;
-        }
-    }
-    0
-}
-
-// By hand: `write!` can err, and a clause knows nothing of a writer after an error.
 pub fn append_decimal(text: &mut Writer, n: u64)
     ensures { Wrote text.old (decimal n) text.new }
 {
-    let mut places = [0u8; 20];
-    let start = spell(n, &mut places);
-    text.put(&places[start..]);
+    let mut digits = itoa::Buffer::new();
+    text.put(digits.format(n).as_bytes());
 }
 
 // A label and a number.
@@ -58,10 +40,10 @@ pub fn append_column(text: &mut Writer, width: usize, n: u64)
     requires { width ≤ most_blanks }
     ensures { Wrote text.old (column width n) text.new }
 {
-    let mut places = [0u8; 20];
-    let start = spell(n, &mut places);
-    append_blanks(text, width.saturating_sub(20 - start));
-    text.put(&places[start..]);
+    let mut digits = itoa::Buffer::new();
+    let digits = digits.format(n).as_bytes();
+    append_blanks(text, width.saturating_sub(digits.len()));
+    text.put(digits);
 }
 
 // Numbers one after another, each in a column of its own, in whole units.
