@@ -1,6 +1,7 @@
 // Bytes put into a lent buffer from a place on, as many as it has room for; what lies beyond them is kept.
 #![tactic(auto)]
 
+ghost use Rattle.std.specs.Prelude.{replicate};
 ghost use Rattle.buffer.specs.Buffer.{Wrote};
 
 // A lent buffer and the place in it where the next piece goes.
@@ -22,5 +23,18 @@ impl<'a> Writer<'a> {
         let n = piece.len().min(self.bytes.len() - at);
         self.bytes[at..at + n].copy_from_slice(&piece[..n]);
         self.at = at + n;
+    }
+
+    // So many times a byte.
+    pub fn put_run(&mut self, byte: u8, count: usize)
+        ensures { Wrote self.old (replicate count byte) self.new }
+    {
+        let at = self.at;
+        if self.bytes.len() < at {
+            return;
+        }
+        let end = at + count.min(self.bytes.len() - at);
+        self.bytes[at..end].fill(byte);
+        self.at = end;
     }
 }

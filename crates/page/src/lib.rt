@@ -6,7 +6,6 @@ ghost use Rattle.buffer.specs.Buffer.{Wrote};
 ghost use Rattle.page.specs.Page.{blank_lines, line_end, page_lines};
 
 use buffer::Writer;
-use text::append_blanks;
 
 pub const LINE_WIDTH: usize = 72;
 
@@ -20,7 +19,7 @@ pub fn end_line(text: &mut Writer, from: usize)
     requires { from ≤ text.old.at }
     ensures { Wrote text.old (line_end (text.old.at - from)) text.new }
 {
-    append_blanks(text, LINE_WIDTH.saturating_sub(text.at - from));
+    text.put_run(b' ', LINE_WIDTH.saturating_sub(text.at - from));
     text.put(b"\n");
 }
 

@@ -1,5 +1,6 @@
 // The lines that the program prints, from plain numbers, put into a lent buffer. None of the calls asks anything of its caller.
-// The exam sheet has the words of three of them, ended as its page is: words and end are two calls, and a line is both.
+// The exam sheet has the words of three of them, ended as its page is. A line is two calls, its words and its end: an end chosen by a
+// trait or a closure would be longer. Number and cycle stay two plain numbers: each definition of a line takes them apart.
 #![tactic(auto)]
 
 ghost use Rattle.buffer.specs.Buffer.{Wrote};

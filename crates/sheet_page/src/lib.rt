@@ -5,7 +5,7 @@ ghost use Rattle.std.specs.Prelude.{◌+◌, ◌≤◌, ◌<◌, length};
 ghost use Rattle.buffer.specs.Buffer.{Wrote};
 ghost use Rattle.page.specs.Page.{line, lines};
 ghost use Rattle.report_lines.specs.Lines.{exit_words, record_words};
-ghost use Rattle.text.specs.Text.{columns, most_blanks};
+ghost use Rattle.text.specs.Text.{columns};
 ghost use Rattle.sheet_page.specs.SheetPage.{exit_lines, flow_lines, head_lines, pair_lines, pair_unit, pair_width};
 ghost use Rattle.sheet_page.specs.SheetPage.{RunStands, record_page, refused_page, rows_for, worked_page};
 
@@ -49,7 +49,7 @@ fn exit_line(text: &mut Writer, label: &[u8], f: ExitFigures)
 
 // A line of numbers in columns.
 fn columns_line(text: &mut Writer, width: usize, unit: u32, numbers: &[u32])
-    requires { (width ≤ most_blanks) × (0 < unit) }
+    requires { 0 < unit }
     ensures { Wrote text.old (line (columns width unit numbers.now)) text.new }
 {
     let from = text.at;

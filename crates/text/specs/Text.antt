@@ -26,7 +26,3 @@ column width n = blanks (width - length (decimal n)) ++ decimal n
 unfoldable pub columns : (width unit : ℕ) → List ℕ → List ℕ
 columns width unit [] = []
 columns width unit (n ∷ ns) = column width (n / unit) ++ columns width unit ns
-
--- the most blanks of one call: a line of the print room
-abbrev pub most_blanks : ℕ
-most_blanks = 72

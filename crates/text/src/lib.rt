@@ -1,14 +1,11 @@
 // Numbers, labels, blanks and columns put into a lent buffer, as much of them as it has room for.
 #![tactic(auto)]
 
-ghost use Rattle.std.specs.Prelude.{◌≤◌, ◌<◌};
+ghost use Rattle.std.specs.Prelude.{◌<◌};
 ghost use Rattle.buffer.specs.Buffer.{Wrote};
-ghost use Rattle.text.specs.Text.{blanks, column, columns, decimal, field, most_blanks};
+ghost use Rattle.text.specs.Text.{column, columns, decimal, field};
 
 use buffer::Writer;
-
-// The most blanks of one call.
-const BLANK_ROOM: usize = 72;
 
 pub fn append_decimal(text: &mut Writer, n: u64)
     ensures { Wrote text.old (decimal n) text.new }
@@ -26,29 +23,19 @@ pub fn append_field(text: &mut Writer, label: &[u8], n: u64)
     append_decimal(text, n);
 }
 
-// So many blanks.
-pub fn append_blanks(text: &mut Writer, n: usize)
-    requires { n ≤ most_blanks }
-    ensures { Wrote text.old (blanks n) text.new }
-{
-    let row = [b' '; BLANK_ROOM];
-    text.put(&row[..n]);
-}
-
 // A number right-aligned in a column of so many bytes.
 pub fn append_column(text: &mut Writer, width: usize, n: u64)
-    requires { width ≤ most_blanks }
     ensures { Wrote text.old (column width n) text.new }
 {
     let mut digits = itoa::Buffer::new();
     let digits = digits.format(n).as_bytes();
-    append_blanks(text, width.saturating_sub(digits.len()));
+    text.put_run(b' ', width.saturating_sub(digits.len()));
     text.put(digits);
 }
 
 // Numbers one after another, each in a column of its own, in whole units.
 pub fn append_columns(text: &mut Writer, width: usize, unit: u32, numbers: &[u32])
-    requires { (width ≤ most_blanks) × (0 < unit) }
+    requires { 0 < unit }
     ensures { Wrote text.old (columns width unit numbers.now) text.new }
 {
     for n in numbers {

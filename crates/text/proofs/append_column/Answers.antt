@@ -9,4 +9,4 @@ pub returns : goal.returns
 unfolding column
 returns c =
     let same = c.as_bytes-digits.ensures.value ∙ c.format.ensures.text ∙ decimal_printed _ c.ranges.n.fits in
-    (rw (c.saturating_sub.ensures, same) at c.append_blanks.ensures) then (rw same at c.put.ensures)
+    (rw (c.saturating_sub.ensures, same) at c.put_run.ensures) then (rw same at c.put.ensures)
