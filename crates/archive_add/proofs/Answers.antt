@@ -17,7 +17,7 @@ use Rattle.archive_format.proofs.Encoded.{length_encode}
 use Rattle.archive_format.specs.Sizes.{body_bound}
 use Rattle.archive_format.specs.Joined.{body_append, body_next}
 use Rattle.archive_open.specs.Opened.{Held, held_run, held_fits}
-use Rattle.buffer.specs.Buffer.{Wrote}
+use Rattle.buffer.specs.Buffer.{WroteAt}
 use Rattle.buffer.proofs.Pieces.{wrote_fits}
 use Rattle.archive_write.specs.Writing.{record_bytes, grown, record_length}
 use Rattle.archive_add.specs.Adds.{Adds}
@@ -128,7 +128,7 @@ module _ {e : Edition} {l : List ℕ} (b ti : List ℕ) {count t last : ℕ} (h 
 
   pub add_done : (out : List ℕ) → length b ≡ e.size → more_length e.size count t (length ti) ≤ length out
       → Ok (grown e l count t b ti) ≡ add_of e l b ti (length out)
-      → {r : ℕ} {out' : List ℕ} → Wrote out 0 (grown e l count t b ti) out' r → Adds e l b ti out (Ok r) out'
+      → {r : ℕ} {out' : List ℕ} → WroteAt out 0 (grown e l count t b ti) out' r → Adds e l b ti out (Ok r) out'
   add_done out sized room y w =
       let long : length (grown e l count t b ti) ≡ more_length e.size count t (length ti) = rw (grown_is e l h b ti hb) (more_length_lem e l h b ti sized) in
       let f : _ = wrote_fits w (omega (arith, long)) in

@@ -1,20 +1,19 @@
 -- As much of a piece as there is room for, copied into the middle of the buffer, is the piece put there.
-use Rattle.std.specs.Prelude.{ℕ, ◌+◌, ◌-◌, ◌≤◌, ◌<◌, min, Bool, true, false, ◌≡◌, refl, List, length, take, drop, leb}
-use Rattle.std.proofs.Common.{arith, sym, ap, ◌∙◌, append_assoc, leb-true, leb-false}
-use Rattle.std.proofs.Math.Nat.{sub-zero}
+use Rattle.std.specs.Prelude.{ℕ, replicate, ◌+◌, ◌-◌, ◌≤◌, ◌<◌, min, Bool, true, false, ◌≡◌, refl, List, length, take, drop, leb}
+use Rattle.std.proofs.Common.{arith, sym, ap, ◌∙◌, append_assoc, leb-true, leb-false, length-drop}
 use Rattle.std.proofs.Math.ListN.{drop_of_length-le, length-take}
-use Rattle.std.proofs.lemmas.List.{take-append-drop}
+use Rattle.std.proofs.lemmas.List.{take-append-drop, take-replicate, length-replicate}
 use Rattle.std.proofs.lemmas.List.Edits.{sets, sets-eq}
 use Rattle.std.proofs.Math.Seq.{length-sets}
 use borrow.Rule.Slice.PartMut.{put_mid, Post-is}
-use Rattle.buffer.specs.Buffer.{put, next_place, Wrote}
+use Rattle.buffer.specs.Buffer.{put, next_place, WroteAt}
 use Rattle.buffer.specs.Pieces.{sets_out, sets_append}
 
-wrote : (b : List ℕ) (at : ℕ) (piece : List ℕ) {b' : List ℕ} {p : ℕ} → b' ≡ sets b at piece → p ≡ next_place b at piece → Wrote b at piece b' p
+wrote : (b : List ℕ) (at : ℕ) (piece : List ℕ) {b' : List ℕ} {p : ℕ} → b' ≡ sets b at piece → p ≡ next_place b at piece → WroteAt b at piece b' p
 unfolding put
 wrote b at piece e f = record { is = rw (e, f) }
 
-pub past : (b : List ℕ) (at : ℕ) (piece : List ℕ) → length b < at → Wrote b at piece b at
+pub past : (b : List ℕ) (at : ℕ) (piece : List ℕ) → length b < at → WroteAt b at piece b at
 unfolding next_place
 past b at piece h = wrote _ _ _ (sym (sets_out b at piece (omega arith))) (omega arith)
 
@@ -33,10 +32,19 @@ module _ (b : List ℕ) (at : ℕ) (piece : List ℕ) {n : ℕ} (start : at ≤ 
       go false e = sets_out _ (at + n) (drop n piece) (rw length-sets (omega (arith, leb-false (length piece) n e, most, start)))
 
   -- the part lent to the copy becomes the front of the piece
-  pub copied : {part : List ℕ} → part ≡ take (n - 0) piece → Wrote b at piece (put_mid at (at + n - at) b part) (at + n)
+  pub copied : {part : List ℕ} → part ≡ take n piece → WroteAt b at piece (put_mid at (at + n - at) b part) (at + n)
   unfolding next_place
   copied e =
       let fits : at + length (take n piece) ≤ length b = omega (arith, taken, most, start) in
       let same : put_mid at (at + n - at) b (take n piece) ≡ sets b at (take n piece) =
       rw (Post-is at (at + n) b (omega arith), sets-eq (take n piece) b at fits, taken) (simp append_assoc) in
-      wrote b at piece (rw (e, sub-zero) (same ∙ sym cut)) (omega (arith, most, start))
+      wrote b at piece (rw e (same ∙ sym cut)) (omega (arith, most, start))
+
+module _ (b : List ℕ) (at byte count : ℕ) {n : ℕ} (start : at ≤ length b) (most : n ≡ min count (length b - at)) where
+  -- the part lent to the filling becomes the front of the run
+  pub filled : {part : List ℕ} → part ≡ replicate (length (take (at + n - at) (drop at b))) byte →
+      WroteAt b at (replicate count byte) (put_mid at (at + n - at) b part) (at + n)
+  filled e =
+      let long : length (take (at + n - at) (drop at b)) ≡ n = simp (length-take, length-drop) (omega (arith, most, start)) in
+      let front : take n (replicate count byte) ≡ replicate n byte = take-replicate n count byte (omega (arith, most)) in
+      copied b at (replicate count byte) start (rw length-replicate most) (rw (front, ← long) e)

@@ -1,27 +1,40 @@
 // Bytes put into a lent buffer from a place on, as many as it has room for; what lies beyond them is kept.
 #![tactic(auto)]
 
-ghost use Rattle.std.specs.Prelude.{◌≡◌, min};
+ghost use Rattle.std.specs.Prelude.{replicate};
 ghost use Rattle.buffer.specs.Buffer.{Wrote};
 
-// The smaller of two.
-pub fn least(a: usize, b: usize) -> usize
-    ensures { result ≡ min a b }
-{
-    if a < b {
-        return a;
-    }
-    b
+// A lent buffer and the place in it where the next piece goes.
+#[derive(Drop)]
+pub struct Writer<'a> {
+    pub bytes: &'a mut [u8],
+    pub at: usize,
 }
 
-// The piece from place `at` on; the next place is handed back.
-pub fn put(buffer: &mut [u8], at: usize, piece: &[u8]) -> usize
-    ensures { Wrote buffer.old at piece.now buffer.new result }
-{
-    if buffer.len() < at {
-        return at;
+impl<'a> Writer<'a> {
+    // A piece; a place past the end leaves the buffer.
+    pub fn put(&mut self, piece: &[u8])
+        ensures { Wrote self.old piece.now self.new }
+    {
+        let at = self.at;
+        if self.bytes.len() < at {
+            return;
+        }
+        let n = piece.len().min(self.bytes.len() - at);
+        self.bytes[at..at + n].copy_from_slice(&piece[..n]);
+        self.at = at + n;
     }
-    let n = least(piece.len(), buffer.len() - at);
-    buffer[at..at + n].copy_from_slice(&piece[0..n]);
-    at + n
+
+    // So many times a byte.
+    pub fn put_run(&mut self, byte: u8, count: usize)
+        ensures { Wrote self.old (replicate count byte) self.new }
+    {
+        let at = self.at;
+        if self.bytes.len() < at {
+            return;
+        }
+        let end = at + count.min(self.bytes.len() - at);
+        self.bytes[at..end].fill(byte);
+        self.at = end;
+    }
 }

@@ -1,15 +1,15 @@
 -- The loop over blank lines: the first of those left, and none.
-use Rattle.std.specs.Prelude.{ℕ, suc, ◌-◌, ◌≤◌, ◌<◌, ◌≡◌, [], ◌++◌}
+use Rattle.std.specs.Prelude.{ℕ, suc, ◌+◌, ◌-◌, ◌≤◌, ◌<◌, ◌≡◌, [], ◌++◌}
 use Rattle.std.proofs.Common.{arith, ap}
 use Rattle.page.specs.Page.{blank_lines, line, line_end, lines}
 
-pub blank_first : (left p : ℕ) → 0 < left → blank_lines left ≡ line_end (p - p) ++ blank_lines (left - 1)
+pub blank_first : (n i at : ℕ) → i < n → blank_lines (n - i) ≡ line_end (at - at) ++ blank_lines (n - (i + 1))
 unfolding line lines
-blank_first left p more =
-    let n : left ≡ suc (left - 1) = omega arith in
-    let z : p - p ≡ 0 = omega arith in
-    rw z (ap blank_lines n)
+blank_first n i at more =
+    let left : n - i ≡ suc (n - (i + 1)) = omega arith in
+    let z : at - at ≡ 0 = omega arith in
+    rw z (ap blank_lines left)
 
-pub blank_none : (left : ℕ) → left ≤ 0 → blank_lines left ≡ []
+pub blank_none : (n i : ℕ) → n ≤ i → blank_lines (n - i) ≡ []
 unfolding lines
-blank_none left none = let z : left ≡ 0 = omega arith in rw z
+blank_none n i none = let z : n - i ≡ 0 = omega arith in rw z

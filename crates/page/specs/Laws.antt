@@ -1,12 +1,12 @@
 -- Laws of lines: one ended by the places that its text took, and lines one after another.
 use Rattle.std.specs.Prelude.{ℕ, ◌-◌, ◌≡◌, refl, List, [], ◌∷◌, ◌++◌}
 use Rattle.std.proofs.Common.{ap, append_assoc, append-nil}
+use Rattle.buffer.specs.declared.Writer.{Writer}
 use Rattle.buffer.specs.Buffer.{Wrote}
 use Rattle.buffer.proofs.Pieces.{ended_by}
 use Rattle.page.specs.Page.{line, line_end, lines}
 
-pub line_ended : {b : List ℕ} {at : ℕ} {t b' : List ℕ} {p : ℕ} {b'' : List ℕ} {q : ℕ} →
-    Wrote b at t b' p → Wrote b' p (line_end (p - at)) b'' q → Wrote b at (line t) b'' q
+pub line_ended : {t t' t'' : Writer} {x : List ℕ} → Wrote t x t' → Wrote t' (line_end (t'.at - t.at)) t'' → Wrote t (line x) t''
 unfolding line
 line_ended u v = ended_by line_end u v
 

@@ -1,11 +1,11 @@
 // Lines of 72 bytes and pages of sixty lines in a lent buffer.
-#![tactic(auto)]
+#![tactic(auto, using(buffer::proofs::Pieces::put_append))]
 
 ghost use Rattle.std.specs.Prelude.{◌-◌, ◌≤◌};
 ghost use Rattle.buffer.specs.Buffer.{Wrote};
 ghost use Rattle.page.specs.Page.{blank_lines, line_end, page_lines};
 
-use text::{append_blanks, lacking};
+use buffer::Writer;
 
 pub const LINE_WIDTH: usize = 72;
 
@@ -14,31 +14,28 @@ pub const PAGE_LINES: usize = 60;
 // The bytes of a page: its lines, and a newline behind each.
 pub const PAGE_ROOM: usize = PAGE_LINES * (LINE_WIDTH + 1);
 
-// Ends a line that began at `from` and whose text ends at `at`.
-pub fn end_line(text: &mut [u8], from: usize, at: usize) -> usize
-    requires { from ≤ at }
-    ensures { Wrote text.old at (line_end (at - from)) text.new result }
+// Ends a line that began at `from`.
+pub fn end_line(text: &mut Writer, from: usize)
+    requires { from ≤ text.old.at }
+    ensures { Wrote text.old (line_end (text.old.at - from)) text.new }
 {
-    let p = append_blanks(text, at, lacking(LINE_WIDTH, at - from));
-    buffer::put(text, p, b"\n")
+    text.put_run(b' ', LINE_WIDTH.saturating_sub(text.at - from));
+    text.put(b"\n");
 }
 
 // So many blank lines.
-fn blank_lines(text: &mut [u8], at: usize, n: usize) -> usize
-    ensures { Wrote text.old at (blank_lines n) text.new result }
+fn blank_lines(text: &mut Writer, n: usize)
+    ensures { Wrote text.old (blank_lines n) text.new }
 {
-    let mut p = at;
-    let mut left = n;
-    while 0 < left {
-        p = end_line(text, p, p);
-        left -= 1;
+    for _ in 0..n {
+        let from = text.at;
+        end_line(text, from);
     }
-    p
 }
 
 // The blank lines that a page of so many lines lacks.
-pub fn end_page(text: &mut [u8], at: usize, used: usize) -> usize
-    ensures { Wrote text.old at (blank_lines (page_lines - used)) text.new result }
+pub fn end_page(text: &mut Writer, used: usize)
+    ensures { Wrote text.old (blank_lines (page_lines - used)) text.new }
 {
-    blank_lines(text, at, lacking(PAGE_LINES, used))
+    blank_lines(text, PAGE_LINES.saturating_sub(used));
 }

@@ -1,8 +1,10 @@
 -- The text of one record, and of the records of an archive one after another.
-use Rattle.std.specs.Prelude.{ℕ, suc, ◌+◌, ◌-◌, ◌≤◌, ◌≡◌, List, length, take, drop}
+use Rattle.std.specs.Prelude.{ℕ, suc, ◌+◌, ◌-◌, ◌≤◌, ◌<◌, ◌≡◌, List, length, take, drop}
 use Rattle.std.proofs.Common.{arith, ap, sym, ◌∙◌}
+use Rattle.std.proofs.Math.Nat.{sub-zero}
 use Rattle.limits.specs.Limits.{most_cycle}
 use Rattle.octets.specs.Octets.{word2, word4}
+use Rattle.buffer.specs.declared.Writer.{Writer}
 use Rattle.buffer.specs.Buffer.{Wrote}
 use Rattle.buffer.specs.Pieces.{Appending}
 use Rattle.buffer.proofs.Pieces.{appending_start, appending_turn, appending_done}
@@ -28,8 +30,8 @@ use Rattle.report.specs.Working.{same_text, longest_room}
 
 module _ (l : List ℕ) {p p' : Profiles} {w : Working} (room : Room most_cycle p) (works : Works l p w p') {cycle : ℕ} (es : cycle ≡ word2 l cycle_at) where
   -- what is printed of the call is printed of the record
-  worked_alone : (form : Form) {number : ℕ} → number ≡ word4 l 0 → {b : List ℕ} {at : ℕ} {b' : List ℕ} {q : ℕ} →
-      Wrote b at (text_in form number cycle (called w p')) b' q → Wrote b at (segment_text form l) b' q
+  worked_alone : (form : Form) {number : ℕ} → number ≡ word4 l 0 → {t t' : Writer} →
+      Wrote t (text_in form number cycle (called w p')) t' → Wrote t (segment_text form l) t'
   unfolding segment_text segment_of
   worked_alone form {number} en v =
       let same : text_in form number cycle (called w p') ≡ text_in form (word4 l 0) (segment_of l).cycle (call_of l longest) =
@@ -37,8 +39,8 @@ module _ (l : List ℕ) {p p' : Profiles} {w : Working} (room : Room most_cycle 
       rw same at v
 
   -- by the form that was matched
-  pub worked_in : {form : Form} (f : Form) → form ≡ f → {number : ℕ} → number ≡ word4 l 0 → {b : List ℕ} {at : ℕ} {b' : List ℕ} {q : ℕ} →
-      Wrote b at (text_in f number cycle (called w p')) b' q → Wrote b at (segment_text form l) b' q
+  pub worked_in : {form : Form} (f : Form) → form ≡ f → {number : ℕ} → number ≡ word4 l 0 → {t t' : Writer} →
+      Wrote t (text_in f number cycle (called w p')) t' → Wrote t (segment_text form l) t'
   worked_in f e en v = rw e (worked_alone f en v)
 
   -- and where it has worked, the output holds its through run
@@ -55,33 +57,34 @@ module _ (l : List ℕ) {p p' : Profiles} {w : Working} (room : Room most_cycle 
 -- ---- the records in order
 
 -- the text so far and that of the records left
-pub record Reporting (form : Form) (l : List ℕ) (count : ℕ) (b₀ : List ℕ) (at : ℕ) (b : List ℕ) (left place p : ℕ) : Type 0 where
+pub record Reporting (form : Form) (l : List ℕ) (count : ℕ) (t₀ t : Writer) (left place : ℕ) : Type 0 where
   pub walk : Walk size l left place
-  pub puts : Appending b₀ at (records_text form (filed_from size count l 0)) b p (records_text form (filed_from size left l place))
+  pub puts : Appending t₀ (records_text form (filed_from size count l 0)) t (records_text form (filed_from size left l place))
 
-pub report_start : (form : Form) {l : List ℕ} {count : ℕ} → Walk size l count 0 → (b : List ℕ) (at : ℕ) → Reporting form l count b at b count 0 at
-report_start form w b at = record { walk = w; puts = appending_start b at _ }
+pub report_start : (form : Form) {l : List ℕ} {count : ℕ} → Walk size l count 0 → (t : Writer) → Reporting form l count t t (count - 0) 0
+report_start form w t = rw sub-zero (record { walk = w; puts = appending_start t _ })
 
-module _ {form : Form} {l : List ℕ} {count : ℕ} {b₀ : List ℕ} {at : ℕ} {b : List ℕ} {left place p : ℕ} (r : Reporting form l count b₀ at b left place p) where
-  pub report_turn : {k : ℕ} → left ≡ suc k → {next : ℕ} → next ≡ next_at size l place → {b' : List ℕ} {p' : ℕ} →
-      Wrote b p (segment_text form (take (place + size - place) (drop place l))) b' p' → Reporting form l count b₀ at b' k next p'
+module _ {form : Form} {l : List ℕ} {count : ℕ} {t₀ t : Writer} {i place : ℕ} (r : Reporting form l count t₀ t (count - i) place) where
+  pub report_turn : i < count → {next : ℕ} → next ≡ next_at size l place → {t' : Writer} →
+      Wrote t (segment_text form (take (place + size - place) (drop place l))) t' → Reporting form l count t₀ t' (count - (i + 1)) next
   unfolding filed_from records_text
-  report_turn {k} one e v =
+  report_turn more e v =
       let n : place + size - place ≡ size = omega arith in
-      record { walk = walk_on r.walk k one e; puts = appending_turn r.puts v _ (rw (one, n, e)) }
+      let one : count - i ≡ suc (count - (i + 1)) = omega arith in
+      record { walk = walk_on r.walk _ one e; puts = appending_turn r.puts v _ (rw (one, n, e)) }
 
-  pub report_done : left ≤ 0 → Wrote b₀ at (records_text form (filed_from size count l 0)) b p
+  pub report_done : count ≤ i → Wrote t₀ (records_text form (filed_from size count l 0)) t
   unfolding filed_from records_text
-  report_done h = let e : left ≡ 0 = omega arith in appending_done r.puts (rw e)
+  report_done h = let e : count - i ≡ 0 = omega arith in appending_done r.puts (rw e)
 
 -- ---- the archive
 
-module _ (form : Form) (l : List ℕ) {b : List ℕ} {at : ℕ} {b' : List ℕ} {p : ℕ} where
-  pub archive_refused : (k : ℕ) → opened_of (decode first_edition l) ≡ Invalid k → Wrote b at (archive_refused_line k) b' p → Wrote b at (archive_text form l) b' p
+module _ (form : Form) (l : List ℕ) {t t' : Writer} where
+  pub archive_refused : (k : ℕ) → opened_of (decode first_edition l) ≡ Invalid k → Wrote t (archive_refused_line k) t' → Wrote t (archive_text form l) t'
   unfolding archive_text
   archive_refused k o v = rw (invalid first_edition l k o) v
 
-  pub archive_read : {count t last : ℕ} → Held first_edition l count t last →
-      Wrote b at (records_text form (filed_from size count l 0)) b' p → Wrote b at (archive_text form l) b' p
+  pub archive_read : {count p last : ℕ} → Held first_edition l count p last →
+      Wrote t (records_text form (filed_from size count l 0)) t' → Wrote t (archive_text form l) t'
   unfolding archive_text
   archive_read h v = rw (held_filed first_edition l h) v

@@ -4,7 +4,7 @@ use Rattle.std.proofs.Common.{arith, length-append, take_at, get_or-drop, le-leb
 use Rattle.std.proofs.lemmas.Bool.{lt-leb}
 use Rattle.refusal.specs.Refusal.{Or, need}
 use Rattle.octets.specs.Octets.{word4}
-use Rattle.buffer.specs.Buffer.{Wrote}
+use Rattle.buffer.specs.Buffer.{WroteAt}
 use Rattle.buffer.proofs.Pieces.{wrote_fits}
 use Rattle.segment.specs.Layout.{number_at}
 use Rattle.segment.specs.Segment.{segment_of}
@@ -83,7 +83,7 @@ text_short form l t e h = let short = lt-leb (text_room form) (length t) (rw e a
 
 -- one that has room holds the whole text, and what stood behind it
 pub text_whole : (form : Form) (l t : List ℕ) → Bytes l → {room : ℕ} → room ≡ text_room form → room ≤ length t →
-    {t' : List ℕ} {n : ℕ} → Wrote t 0 (input_text form l) t' n → Writes (text_of form l (length t)) t (Value n) t'
+    {t' : List ℕ} {n : ℕ} → WroteAt t 0 (input_text form l) t' n → Writes (text_of form l (length t)) t (Value n) t'
 unfolding need
 text_whole form l t bytes e roomy w =
     let h : text_room form ≤ length t = rw e at roomy in

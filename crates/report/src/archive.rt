@@ -13,99 +13,86 @@ ghost use Rattle.report.specs.Report.{archive_text, input_text, records_text, se
 use crate::{Form, INPUT_LIMIT};
 use archive_format::FIRST_EDITION;
 use archive_open::{Opened, next_place, open};
+use buffer::Writer;
 
 fn segment_text(
     form: Form,
-    text: &mut [u8],
-    at: usize,
+    text: &mut Writer,
     bytes: &[u8],
     output: &mut [u32],
     first: &mut [u32],
     second: &mut [u32],
-) -> usize
+)
     requires { (length bytes.now ≡ size) × Room most_cycle (profiles output.old first.old second.old) }
-    ensures { Wrote text.old at (segment_text form bytes.now) text.new result }
+    ensures { Wrote text.old (segment_text form bytes.now) text.new }
 {
     let number = octets::word4_at(bytes, segment::NUMBER_AT);
     let cycle = octets::word2_at(bytes, segment::CYCLE_AT);
     let w = working::work(bytes, output, first, second);
     match form {
-        Form::Lines => report_record::record_text(text, at, number, cycle, w),
-        Form::Sheet => sheet_page::record_page(text, at, number, cycle, w, &output[..]),
+        Form::Lines => report_record::record_text(text, number, cycle, w),
+        Form::Sheet => sheet_page::record_page(text, number, cycle, w, &output[..]),
     }
 }
 
 // So many records from place 0 on, in order.
 fn records_text(
     form: Form,
-    text: &mut [u8],
-    at: usize,
+    text: &mut Writer,
     archive: &[u8],
     count: usize,
     output: &mut [u32],
     first: &mut [u32],
     second: &mut [u32],
-) -> usize
+)
     requires { Walk size archive.now count 0 × Room most_cycle (profiles output.old first.old second.old) }
-    ensures { Wrote text.old at (records_text form (filed_from size count archive.now 0)) text.new result }
+    ensures { Wrote text.old (records_text form (filed_from size count archive.now 0)) text.new }
 {
-    let mut left = count;
     let mut place: usize = 0;
-    let mut p = at;
-    while 0 < left {
-        p = segment_text(
-            form,
-            text,
-            p,
-            &archive[place..place + segment::SIZE],
-            output,
-            first,
-            second,
-        );
+    for _ in 0..count {
+        let bytes = &archive[place..place + segment::SIZE];
+        segment_text(form, text, bytes, output, first, second);
         place = next_place(segment::SIZE, archive, place);
-        left -= 1;
     }
-    p
 }
 
 fn archive_text(
     form: Form,
-    text: &mut [u8],
-    at: usize,
+    text: &mut Writer,
     archive: &[u8],
     output: &mut [u32],
     first: &mut [u32],
     second: &mut [u32],
-) -> usize
+)
     requires { Room most_cycle (profiles output.old first.old second.old) }
-    ensures { Wrote text.old at (archive_text form archive.now) text.new result }
+    ensures { Wrote text.old (archive_text form archive.now) text.new }
 {
     let opened = open(FIRST_EDITION, archive);
     match opened {
-        Opened::Invalid(k) => report_lines::archive_refused_line(text, at, k),
+        Opened::Invalid(k) => report_lines::archive_refused_line(text, k),
         Opened::Valid {
             count,
             trailer: _,
             last: _,
-        } => records_text(form, text, at, archive, count, output, first, second),
+        } => records_text(form, text, archive, count, output, first, second),
     }
 }
 
 #[tactic(auto, unfolding(crate::specs::Report::input_text))]
 pub(crate) fn input_text(
     form: Form,
-    text: &mut [u8],
-    at: usize,
+    text: &mut Writer,
     archive: &[u8],
     output: &mut [u32],
     first: &mut [u32],
     second: &mut [u32],
-) -> usize
+)
     requires { Room most_cycle (profiles output.old first.old second.old) }
-    ensures { Wrote text.old at (input_text form archive.now) text.new result }
+    ensures { Wrote text.old (input_text form archive.now) text.new }
 {
     if INPUT_LIMIT < archive.len() {
-        return report_lines::archive_refused_line(text, at, 2);
+        report_lines::archive_refused_line(text, 2);
+    } else {
+        archive_text(form, text, archive, output, first, second);
     }
-    archive_text(form, text, at, archive, output, first, second)
 }

@@ -1,4 +1,6 @@
-// The lines that the program prints, from plain numbers, appended to a lent buffer. None of the calls asks anything of its caller.
+// The lines that the program prints, from plain numbers, put into a lent buffer. None of the calls asks anything of its caller.
+// The exam sheet has the words of three of them, ended as its page is. A line is two calls, its words and its end: an end chosen by a
+// trait or a closure would be longer. Number and cycle stay two plain numbers: each definition of a line takes them apart.
 #![tactic(auto)]
 
 ghost use Rattle.buffer.specs.Buffer.{Wrote};
@@ -6,94 +8,88 @@ ghost use Rattle.text.specs.Words.{newline};
 ghost use Rattle.report_lines.specs.Lines.{access_line, archive_refused_line, blocked_line, exit_line, exit_words, record_line, record_words};
 ghost use Rattle.report_lines.specs.Lines.{refused_line, refused_words};
 
+use buffer::Writer;
 use exit_figures::ExitFigures;
 use text::append_field;
 
-fn end_line(text: &mut [u8], at: usize) -> usize
-    ensures { Wrote text.old at newline text.new result }
+fn end_line(text: &mut Writer)
+    ensures { Wrote text.old newline text.new }
 {
-    buffer::put(text, at, b"\n")
+    text.put(b"\n");
 }
 
 // A line without its end: the exam sheet has it too, ended as its page is.
-pub fn record_words(
-    text: &mut [u8],
-    at: usize,
-    number: u32,
-    cycle: u32,
-    arrival: u32,
-    rounds: u32,
-) -> usize
-    ensures { Wrote text.old at (record_words number cycle arrival rounds) text.new result }
+#[tactic(auto, using(buffer::proofs::Pieces::put_append), unfolding(crate::specs::Lines::record_words))]
+pub fn record_words(text: &mut Writer, number: u32, cycle: u32, arrival: u32, rounds: u32)
+    ensures { Wrote text.old (record_words number cycle arrival rounds) text.new }
 {
-    let p = append_field(text, at, b"card ", number as u64);
-    let p = append_field(text, p, b" cycle ", cycle as u64);
-    let p = append_field(text, p, b" shift ", arrival as u64);
-    append_field(text, p, b" rounds ", rounds as u64)
+    append_field(text, b"card ", u64::from(number));
+    append_field(text, b" cycle ", u64::from(cycle));
+    append_field(text, b" shift ", u64::from(arrival));
+    append_field(text, b" rounds ", u64::from(rounds));
 }
 
-pub fn exit_words(text: &mut [u8], at: usize, label: &[u8], f: ExitFigures) -> usize
-    ensures { Wrote text.old at (exit_words label.now f) text.new result }
+#[tactic(auto, using(buffer::proofs::Pieces::put_append), unfolding(crate::specs::Lines::exit_words))]
+pub fn exit_words(text: &mut Writer, label: &[u8], f: ExitFigures)
+    ensures { Wrote text.old (exit_words label.now f) text.new }
 {
-    let p = append_field(text, at, label, f.total);
-    let p = append_field(text, p, b" green ", f.green);
-    append_field(text, p, b" permille ", f.permille as u64)
+    append_field(text, label, f.total);
+    append_field(text, b" green ", f.green);
+    append_field(text, b" permille ", u64::from(f.permille));
 }
 
-pub fn refused_words(text: &mut [u8], at: usize, number: u32, k: u32) -> usize
-    ensures { Wrote text.old at (refused_words number k) text.new result }
+#[tactic(auto, using(buffer::proofs::Pieces::put_append), unfolding(crate::specs::Lines::refused_words))]
+pub fn refused_words(text: &mut Writer, number: u32, k: u32)
+    ensures { Wrote text.old (refused_words number k) text.new }
 {
-    let p = append_field(text, at, b"card ", number as u64);
-    append_field(text, p, b" refused ", k as u64)
+    append_field(text, b"card ", u64::from(number));
+    append_field(text, b" refused ", u64::from(k));
 }
 
-pub fn record_line(
-    text: &mut [u8],
-    at: usize,
-    number: u32,
-    cycle: u32,
-    arrival: u32,
-    rounds: u32,
-) -> usize
-    ensures { Wrote text.old at (record_line number cycle arrival rounds) text.new result }
+#[tactic(auto, using(buffer::proofs::Pieces::put_append), unfolding(crate::specs::Lines::record_line))]
+pub fn record_line(text: &mut Writer, number: u32, cycle: u32, arrival: u32, rounds: u32)
+    ensures { Wrote text.old (record_line number cycle arrival rounds) text.new }
 {
-    let p = record_words(text, at, number, cycle, arrival, rounds);
-    end_line(text, p)
+    record_words(text, number, cycle, arrival, rounds);
+    end_line(text);
 }
 
-pub fn exit_line(text: &mut [u8], at: usize, label: &[u8], f: ExitFigures) -> usize
-    ensures { Wrote text.old at (exit_line label.now f) text.new result }
+#[tactic(auto, using(buffer::proofs::Pieces::put_append), unfolding(crate::specs::Lines::exit_line))]
+pub fn exit_line(text: &mut Writer, label: &[u8], f: ExitFigures)
+    ensures { Wrote text.old (exit_line label.now f) text.new }
 {
-    let p = exit_words(text, at, label, f);
-    end_line(text, p)
+    exit_words(text, label, f);
+    end_line(text);
 }
 
 // The access exit has its total only.
-pub fn access_line(text: &mut [u8], at: usize, total: u64) -> usize
-    ensures { Wrote text.old at (access_line total) text.new result }
+pub fn access_line(text: &mut Writer, total: u64)
+    ensures { Wrote text.old (access_line total) text.new }
 {
-    let p = append_field(text, at, b"exit a total ", total);
-    end_line(text, p)
+    append_field(text, b"exit a total ", total);
+    end_line(text);
 }
 
-pub fn blocked_line(text: &mut [u8], at: usize, count: u32, cycle: u32) -> usize
-    ensures { Wrote text.old at (blocked_line count cycle) text.new result }
+#[tactic(auto, using(buffer::proofs::Pieces::put_append), unfolding(crate::specs::Lines::blocked_line))]
+pub fn blocked_line(text: &mut Writer, count: u32, cycle: u32)
+    ensures { Wrote text.old (blocked_line count cycle) text.new }
 {
-    let p = append_field(text, at, b"blocked ", count as u64);
-    let p = append_field(text, p, b" of ", cycle as u64);
-    end_line(text, p)
+    append_field(text, b"blocked ", u64::from(count));
+    append_field(text, b" of ", u64::from(cycle));
+    end_line(text);
 }
 
-pub fn refused_line(text: &mut [u8], at: usize, number: u32, k: u32) -> usize
-    ensures { Wrote text.old at (refused_line number k) text.new result }
+#[tactic(auto, using(buffer::proofs::Pieces::put_append), unfolding(crate::specs::Lines::refused_line))]
+pub fn refused_line(text: &mut Writer, number: u32, k: u32)
+    ensures { Wrote text.old (refused_line number k) text.new }
 {
-    let p = refused_words(text, at, number, k);
-    end_line(text, p)
+    refused_words(text, number, k);
+    end_line(text);
 }
 
-pub fn archive_refused_line(text: &mut [u8], at: usize, k: u32) -> usize
-    ensures { Wrote text.old at (archive_refused_line k) text.new result }
+pub fn archive_refused_line(text: &mut Writer, k: u32)
+    ensures { Wrote text.old (archive_refused_line k) text.new }
 {
-    let p = append_field(text, at, b"drawer refused ", k as u64);
-    end_line(text, p)
+    append_field(text, b"drawer refused ", u64::from(k));
+    end_line(text);
 }

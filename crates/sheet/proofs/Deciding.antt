@@ -4,7 +4,7 @@ use Rattle.std.proofs.Common.{arith, ap, sym, subst, ◌∙◌}
 use Rattle.refusal.specs.declared.Refusal.{Refusal}
 use Rattle.refusal.specs.Refusal.{ok_refused}
 use Rattle.octets.specs.Octets.{word4}
-use Rattle.buffer.specs.Buffer.{Wrote}
+use Rattle.buffer.specs.Buffer.{WroteAt}
 use Rattle.buffer.proofs.Pieces.{wrote_fits}
 use Rattle.segment.specs.declared.Segment.{Segment}
 use Rattle.segment.specs.Layout.{number_at}
@@ -33,7 +33,7 @@ use Rattle.sheet.proofs.Laws.{beneath, page_laid_out, page_told}
 
 pub sheet_filled : {s : Segment} {d : Decision} {p : Profiles} → Decided s d p → (number : ℕ) → number < 2 ^ 32 →
     {w : Working} {p' : Profiles} → called (Ok w) p' ≡ worked_call s d p → (page : List ℕ) → page_room ≤ length page →
-    {page' : List ℕ} {q : ℕ} → Wrote page 0 (worked_page number s.cycle w p'.output) page' q →
+    {page' : List ℕ} {q : ℕ} → WroteAt page 0 (worked_page number s.cycle w p'.output) page' q →
     sheet_called (Ok w) p' page' ≡ printed number s.cycle (worked_of s d) (filled_of s d.pairs.rows p) page
 sheet_filled {s} {d} {p} h number four {w} {p'} e page room {page'} v =
     let text = worked_page number s.cycle w p'.output in

@@ -1,7 +1,8 @@
 // The exam sheet of a segment record: everything is decided first, then the three profiles are filled, then the page.
 #![tactic(auto)]
 
-ghost use Rattle.std.specs.Prelude.{◌≡◌, ◌≤◌, length};
+ghost use Rattle.std.specs.Prelude.{◌≡◌, ◌+◌, ◌≤◌, length};
+ghost use Rattle.buffer.specs.Buffer.{WroteAt};
 ghost use Rattle.ranges.specs.Ranges.{Ranges};
 ghost use Rattle.propagation.specs.Propagation.{filled_of, lent};
 ghost use Rattle.propagation.specs.Steps.{Room};
@@ -9,13 +10,25 @@ ghost use Rattle.working_outcome.specs.Answer.{worked_of};
 ghost use Rattle.working.specs.Decided.{Decided};
 ghost use Rattle.working.specs.Working.{by_decision, decision_for};
 ghost use Rattle.page.specs.Page.{page_room};
+ghost use Rattle.sheet_page.specs.SheetPage.{worked_page};
 ghost use Rattle.sheet.specs.Sheet.{Sheets, printed, sheet_by, sheet_called};
 
 use balance_decision::{Decision, Unworked};
+use buffer::Writer;
 use page::PAGE_ROOM;
 use refusal::{Refusal, need};
 use segment::Segment;
 use working_outcome::Working;
+
+// The page of a record that has worked, to the front of a buffer; the place behind it is handed back.
+fn put_page(number: u32, cycle: u32, w: Working, output: &[u32], page: &mut [u8]) -> usize
+    requires { cycle + cycle ≤ length output.now }
+    ensures { WroteAt page.old 0 (worked_page number cycle w output.now) page.new result }
+{
+    let mut text = Writer { bytes: page, at: 0 };
+    sheet_page::worked_page(&mut text, number, cycle, w, output);
+    text.at
+}
 
 // Fills the profiles of a record that is decided to work, then the page.
 fn fill(
@@ -32,7 +45,7 @@ fn fill(
         ≡ printed number s.cycle (worked_of s decision) (filled_of s decision.pairs.rows (lent output.old first.old second.old)) page.old }
 {
     let w = working::fill(s, decision, output, first, second);
-    sheet_page::worked_page(page, 0, number, s.cycle, w, &output[..]);
+    put_page(number, s.cycle, w, &output[..], page);
     w
 }
 

@@ -1,9 +1,10 @@
 -- The rows of a run, the next of those left and none; and the page from its parts.
 use Rattle.std.specs.Prelude.{ℕ, suc, ◌+◌, ◌-◌, ◌*◌, ◌≤◌, ◌<◌, min, Bool, true, false, ◌≡◌, refl, List, [], ◌++◌, length, take, drop, leb}
-use Rattle.std.proofs.Common.{arith, sym, ◌∙◌, ap, length-append, length-drop, drop-drop, leb-true, leb-false}
+use Rattle.std.proofs.Common.{arith, sym, ◌∙◌, length-append, length-drop, leb-true, leb-false}
 use Rattle.std.proofs.Math.ListN.{drop_of_length-le}
 use Rattle.std.proofs.Math.Seq.{length-take-le}
-use Rattle.std.proofs.lemmas.List.{take_all}
+use Rattle.std.proofs.lemmas.List.{take_all, take_at, drop_at}
+use Rattle.buffer.specs.declared.Writer.{Writer}
 use Rattle.buffer.specs.Buffer.{Wrote}
 use Rattle.buffer.proofs.Pieces.{◌then◌}
 use Rattle.working_outcome.specs.declared.Working.{Working}
@@ -45,27 +46,24 @@ run_first : (run : List ℕ) → 0 < length run → run_lines run ≡ line (colu
 unfolding flow_lines lines
 run_first run h = rw (length-drop, rows_next (length run) h)
 
--- the next row: n steps of those left
-pub run_from : (run : List ℕ) (i n : ℕ) → i < length run → n ≡ min row_steps (length run - i) →
-    run_lines (drop i run) ≡ line (columns flow_width flow_unit (take (i + n - i) (drop i run))) ++ run_lines (drop (i + n) run)
-run_from run i n more e =
-    let left : length (drop i run) ≡ length run - i = length-drop i run in
-    let m : n ≡ min row_steps (length (drop i run)) = e ∙ ap (min row_steps) (sym left) in
-    let w : i + n - i ≡ n = omega arith in
-    rw (w, ← (drop-drop n i run), take_least row_steps (drop i run) m, drop_least row_steps (drop i run) m)
-    (run_first (drop i run) (omega (arith, left)))
+-- the next row, of the steps left
+pub run_next : (rest row left : List ℕ) → rest ≡ row ++ left → length row ≡ min row_steps (length rest) → 0 < length rest →
+    run_lines rest ≡ line (columns flow_width flow_unit row) ++ run_lines left
+run_next rest row left e n more =
+    let front : take (length row) rest ≡ row = rw e (take_at row left (length row) refl) in
+    let behind : drop (length row) rest ≡ left = rw e (drop_at row left (length row) refl) in
+    rw (← (take_least row_steps rest n), front, ← (drop_least row_steps rest n), behind) at (run_first rest more)
 
-pub run_none : (run : List ℕ) (i : ℕ) → length run ≤ i → run_lines (drop i run) ≡ []
+pub run_none : (rest : List ℕ) → length rest ≡ 0 → run_lines rest ≡ []
 unfolding flow_lines lines
-run_none run i h = rw (drop_of_length-le run {i = i} h)
+run_none rest h = rw h
 
 -- ---- the page
 
 -- the lines above the run, the run, and blank lines
 pub page_done : (number cycle : ℕ) (w : Working) (output : List ℕ) → cycle + cycle ≤ length output →
-    {b : List ℕ} {at : ℕ} {b₁ : List ℕ} {p : ℕ} {b₂ : List ℕ} {q : ℕ} {b₃ : List ℕ} {r : ℕ} →
-    Wrote b at (lines (head_lines number cycle w)) b₁ p → Wrote b₁ p (run_lines (take (cycle + cycle - cycle) (drop cycle output))) b₂ q →
-    Wrote b₂ q (blank_lines (page_lines - (8 + rows_for cycle))) b₃ r → Wrote b at (worked_page number cycle w output) b₃ r
+    {t t₁ t₂ t₃ : Writer} → Wrote t (lines (head_lines number cycle w)) t₁ → Wrote t₁ (run_lines (take (cycle + cycle - cycle) (drop cycle output))) t₂ →
+    Wrote t₂ (blank_lines (page_lines - (8 + rows_for cycle))) t₃ → Wrote t (worked_page number cycle w output) t₃
 unfolding worked_page sheet_lines page
 page_done number cycle w output room u v x =
     let width : cycle + cycle - cycle ≡ cycle = omega arith in

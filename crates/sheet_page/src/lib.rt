@@ -1,15 +1,16 @@
-// The exam sheet of one record on a page, appended to a lent buffer: the record's line, its pair flows, its exits and the through run.
+// The exam sheet of one record on a page, put into a lent buffer: the record's line, its pair flows, its exits and the through run.
 #![tactic(auto)]
 
 ghost use Rattle.std.specs.Prelude.{◌+◌, ◌≤◌, ◌<◌, length};
 ghost use Rattle.buffer.specs.Buffer.{Wrote};
 ghost use Rattle.page.specs.Page.{line, lines};
 ghost use Rattle.report_lines.specs.Lines.{exit_words, record_words};
-ghost use Rattle.text.specs.Text.{columns, most_blanks};
+ghost use Rattle.text.specs.Text.{columns};
 ghost use Rattle.sheet_page.specs.SheetPage.{exit_lines, flow_lines, head_lines, pair_lines, pair_unit, pair_width};
 ghost use Rattle.sheet_page.specs.SheetPage.{RunStands, record_page, refused_page, rows_for, worked_page};
 
 use balance_decision::Unworked;
+use buffer::Writer;
 use exit_figures::ExitFigures;
 use page::{end_line, end_page};
 use report_lines::{exit_words, record_words, refused_words};
@@ -30,117 +31,102 @@ const ROW_STEPS: usize = 10;
 // The lines above the run: the record's, four of pair flows, three of exits.
 const HEAD_LINES: usize = 8;
 
-fn record_line(text: &mut [u8], at: usize, number: u32, cycle: u32, w: Working) -> usize
-    ensures { Wrote text.old at (line (record_words number cycle w.arrival w.rounds)) text.new result }
+fn record_line(text: &mut Writer, number: u32, cycle: u32, w: Working)
+    ensures { Wrote text.old (line (record_words number cycle w.arrival w.rounds)) text.new }
 {
-    let p = record_words(text, at, number, cycle, w.arrival, w.rounds);
-    end_line(text, at, p)
+    let from = text.at;
+    record_words(text, number, cycle, w.arrival, w.rounds);
+    end_line(text, from);
 }
 
-fn exit_line(text: &mut [u8], at: usize, label: &[u8], f: ExitFigures) -> usize
-    ensures { Wrote text.old at (line (exit_words label.now f)) text.new result }
+fn exit_line(text: &mut Writer, label: &[u8], f: ExitFigures)
+    ensures { Wrote text.old (line (exit_words label.now f)) text.new }
 {
-    let p = exit_words(text, at, label, f);
-    end_line(text, at, p)
+    let from = text.at;
+    exit_words(text, label, f);
+    end_line(text, from);
 }
 
 // A line of numbers in columns.
-fn columns_line(text: &mut [u8], at: usize, width: usize, unit: u32, numbers: &[u32]) -> usize
-    requires { (width ≤ most_blanks) × (0 < unit) }
-    ensures { Wrote text.old at (line (columns width unit numbers.now)) text.new result }
+fn columns_line(text: &mut Writer, width: usize, unit: u32, numbers: &[u32])
+    requires { 0 < unit }
+    ensures { Wrote text.old (line (columns width unit numbers.now)) text.new }
 {
-    let p = append_columns(text, at, width, unit, numbers);
-    end_line(text, at, p)
+    let from = text.at;
+    append_columns(text, width, unit, numbers);
+    end_line(text, from);
 }
 
 // The four pair flows of an entry.
-fn pair_line(text: &mut [u8], at: usize, row: [u32; 4]) -> usize
-    ensures { Wrote text.old at (line (columns pair_width pair_unit row)) text.new result }
+fn pair_line(text: &mut Writer, row: [u32; 4])
+    ensures { Wrote text.old (line (columns pair_width pair_unit row)) text.new }
 {
-    columns_line(text, at, PAIR_WIDTH, PAIR_UNIT, &row)
+    columns_line(text, PAIR_WIDTH, PAIR_UNIT, &row);
 }
 
-fn pair_lines(text: &mut [u8], at: usize, rows: [[u32; 4]; 4]) -> usize
-    ensures { Wrote text.old at (lines (pair_lines rows)) text.new result }
+fn pair_lines(text: &mut Writer, rows: [[u32; 4]; 4])
+    ensures { Wrote text.old (lines (pair_lines rows)) text.new }
 {
-    let p = pair_line(text, at, rows[0]);
-    let p = pair_line(text, p, rows[1]);
-    let p = pair_line(text, p, rows[2]);
-    pair_line(text, p, rows[3])
+    pair_line(text, rows[0]);
+    pair_line(text, rows[1]);
+    pair_line(text, rows[2]);
+    pair_line(text, rows[3]);
 }
 
-fn exit_lines(text: &mut [u8], at: usize, w: Working) -> usize
-    ensures { Wrote text.old at (lines (exit_lines w)) text.new result }
+fn exit_lines(text: &mut Writer, w: Working)
+    ensures { Wrote text.old (lines (exit_lines w)) text.new }
 {
-    let p = exit_line(text, at, b"exit l total ", w.left);
-    let p = exit_line(text, p, b"exit t total ", w.through);
-    exit_line(text, p, b"exit r total ", w.right)
+    exit_line(text, b"exit l total ", w.left);
+    exit_line(text, b"exit t total ", w.through);
+    exit_line(text, b"exit r total ", w.right);
 }
 
 // Ten steps to a row, the last perhaps shorter.
-fn flow_lines(text: &mut [u8], at: usize, run: &[u32]) -> usize
-    ensures { Wrote text.old at (lines (flow_lines (rows_for (length run.now)) run.now)) text.new result }
+fn flow_lines(text: &mut Writer, run: &[u32])
+    ensures { Wrote text.old (lines (flow_lines (rows_for (length run.now)) run.now)) text.new }
 {
-    let mut p = at;
-    let mut i = 0;
-    while i < run.len() {
-        let n = buffer::least(ROW_STEPS, run.len() - i);
-        p = columns_line(text, p, FLOW_WIDTH, FLOW_UNIT, &run[i..i + n]);
-        i += n;
+    for row in run.chunks(ROW_STEPS) {
+        columns_line(text, FLOW_WIDTH, FLOW_UNIT, row);
     }
-    p
 }
 
-fn head_lines(text: &mut [u8], at: usize, number: u32, cycle: u32, w: Working) -> usize
-    ensures { Wrote text.old at (lines (head_lines number cycle w)) text.new result }
+fn head_lines(text: &mut Writer, number: u32, cycle: u32, w: Working)
+    ensures { Wrote text.old (lines (head_lines number cycle w)) text.new }
 {
-    let p = record_line(text, at, number, cycle, w);
-    let p = pair_lines(text, p, w.pairs.into());
-    exit_lines(text, p, w)
+    record_line(text, number, cycle, w);
+    pair_lines(text, w.pairs.into());
+    exit_lines(text, w);
 }
 
 // The page of a record that has worked.
-pub fn worked_page(
-    text: &mut [u8],
-    at: usize,
-    number: u32,
-    cycle: u32,
-    w: Working,
-    output: &[u32],
-) -> usize
+pub fn worked_page(text: &mut Writer, number: u32, cycle: u32, w: Working, output: &[u32])
     requires { cycle + cycle ≤ length output.now }
-    ensures { Wrote text.old at (worked_page number cycle w output.now) text.new result }
+    ensures { Wrote text.old (worked_page number cycle w output.now) text.new }
 {
     let one = cycle as usize;
-    let p = head_lines(text, at, number, cycle, w);
-    let p = flow_lines(text, p, &output[one..one + one]);
-    end_page(text, p, HEAD_LINES + (one + 9) / ROW_STEPS)
+    head_lines(text, number, cycle, w);
+    flow_lines(text, &output[one..one + one]);
+    end_page(text, HEAD_LINES + one.div_ceil(ROW_STEPS));
 }
 
 // The page of a refused record: its line, and blanks.
-pub fn refused_page(text: &mut [u8], at: usize, number: u32, k: u32) -> usize
-    ensures { Wrote text.old at (refused_page number k) text.new result }
+pub fn refused_page(text: &mut Writer, number: u32, k: u32)
+    ensures { Wrote text.old (refused_page number k) text.new }
 {
-    let p = refused_words(text, at, number, k);
-    let p = end_line(text, at, p);
-    end_page(text, p, 1)
+    let from = text.at;
+    refused_words(text, number, k);
+    end_line(text, from);
+    end_page(text, 1);
 }
 
 // The page of a record by what its working answered. The output is looked at where it has worked, and is asked to hold the run there.
 #[tactic(auto, unfolding(crate::specs::SheetPage::record_page))]
-pub fn record_page(
-    text: &mut [u8],
-    at: usize,
-    number: u32,
-    cycle: u32,
-    answer: Result<Working, Unworked>,
-    output: &[u32],
-) -> usize
+pub fn record_page(text: &mut Writer, number: u32, cycle: u32, answer: Result<Working, Unworked>, output: &[u32])
     requires { RunStands cycle answer output.now }
-    ensures { Wrote text.old at (record_page number cycle answer output.now) text.new result }
+    ensures { Wrote text.old (record_page number cycle answer output.now) text.new }
 {
     match answer {
-        Ok(w) => worked_page(text, at, number, cycle, w, output),
-        Err(u) => refused_page(text, at, number, u.number()),
+        Ok(w) => worked_page(text, number, cycle, w, output),
+        Err(u) => refused_page(text, number, u.number()),
     }
 }

@@ -11,7 +11,7 @@ unfolding reads
 reads_snoc n [] d = refl
 reads_snoc n (x ∷ a) d = reads_snoc (10 * n + (x - 48)) a d
 
-tenth : (k n : ℕ) → n < 10 ^ suc k → n / 10 < 10 ^ k
+pub tenth : (k n : ℕ) → n < 10 ^ suc k → n / 10 < 10 ^ k
 tenth k n h = (div-lt_iff_lt-mul {k = 10} (omega arith)).1 (rw pow-suc at h)
 
 pub digits_read : (k n : ℕ) → n < 10 ^ k → reads 0 (digits k n) ≡ n

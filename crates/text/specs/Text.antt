@@ -1,5 +1,5 @@
 -- Numbers in decimal digits, behind a label, and right-aligned in columns.
-use Rattle.std.specs.Prelude.{ℕ, zero, suc, ◌+◌, ◌-◌, ◌/◌, ◌%◌, ◌≤◌, cond, ◌≡◌, List, [], ◌∷◌, ◌++◌, eqb, length, drop, replicate}
+use Rattle.std.specs.Prelude.{ℕ, zero, suc, ◌+◌, ◌-◌, ◌/◌, ◌%◌, cond, List, [], ◌∷◌, ◌++◌, eqb, length, replicate}
 
 -- the decimal digits of n, the last k of them at most; 48 is the byte of 0
 unfoldable pub digits : ℕ → ℕ → List ℕ
@@ -9,12 +9,6 @@ digits (suc k) n = cond (eqb (n / 10) 0) ((48 + n % 10) ∷ []) (digits k (n / 1
 -- twenty digits hold every number of 64 bits
 abbrev pub decimal : ℕ → List ℕ
 decimal n = digits 20 n
-
--- the digits stand at the end of twenty places, from k on
-pub record Spelt (n : ℕ) (places : List ℕ) (k : ℕ) : Type 0 where
-  pub from : k ≤ length places
-  pub long : length places ≡ 20
-  pub is : drop k places ≡ decimal n
 
 -- a label and a number
 unfoldable pub field : List ℕ → ℕ → List ℕ
@@ -32,7 +26,3 @@ column width n = blanks (width - length (decimal n)) ++ decimal n
 unfoldable pub columns : (width unit : ℕ) → List ℕ → List ℕ
 columns width unit [] = []
 columns width unit (n ∷ ns) = column width (n / unit) ++ columns width unit ns
-
--- the most blanks of one call: a line of the print room
-abbrev pub most_blanks : ℕ
-most_blanks = 72

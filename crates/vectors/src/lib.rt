@@ -6,9 +6,10 @@ ghost use Rattle.std.specs.Io.KnownBytes.{Appends};
 ghost use Rattle.std.specs.Float.{binary64};
 ghost use Rattle.std.specs.Float.Ieee.{to_bits};
 ghost use Rattle.octets.specs.Octets.{word4};
-ghost use Rattle.buffer.specs.Buffer.{Wrote, next_place};
+ghost use Rattle.buffer.specs.Buffer.{WroteAt, next_place};
 ghost use Rattle.vectors.specs.Vectors.{byte_pattern, closing_line, float_differs, pattern, profile_differs, rows_differ, words_differ};
 
+use buffer::Writer;
 use std::io;
 use std::io::{Read, Write};
 
@@ -70,13 +71,16 @@ pub fn differing<W: Write>(output: &mut W, i: u32, before: u32) -> io::Result<u3
     Ok(before + 1)
 }
 
-// How many cases there were and how many of them differ, in the front of a lent buffer; the length is handed back.
+// How many cases there were and how many of them differ, to the front of a lent buffer; the length is handed back.
+#[tactic(auto, using(buffer::proofs::Pieces::put_append), unfolding(crate::specs::Vectors::closing_line))]
 fn closing_line(line: &mut [u8], cases: u32, differing: u32) -> usize
-    ensures { Wrote line.old 0 (closing_line cases differing) line.new result }
+    ensures { WroteAt line.old 0 (closing_line cases differing) line.new result }
 {
-    let p = text::append_decimal(line, 0, cases as u64);
-    let q = text::append_field(line, p, b" cases, ", differing as u64);
-    buffer::put(line, q, b" differs\n")
+    let mut line = Writer { bytes: line, at: 0 };
+    text::append_decimal(&mut line, u64::from(cases));
+    text::append_field(&mut line, b" cases, ", u64::from(differing));
+    line.put(b" differs\n");
+    line.at
 }
 
 // Writes the closing line, and leaves it in the lent buffer.
@@ -86,8 +90,8 @@ pub fn finish<W: Write>(
     cases: u32,
     differing: u32,
 ) -> io::Result<usize>
-    ensures filled { Wrote line.old 0 (closing_line cases differing) line.new (next_place line.old 0 (closing_line cases differing)) }
-    ensures held { IfOk result (λ n. Wrote line.old 0 (closing_line cases differing) line.new n) }
+    ensures filled { WroteAt line.old 0 (closing_line cases differing) line.new (next_place line.old 0 (closing_line cases differing)) }
+    ensures held { IfOk result (λ n. WroteAt line.old 0 (closing_line cases differing) line.new n) }
     ensures written { IfOk result (λ n. Appends (W.contents output.old) (W.contents output.new) (take n line.new)) }
 {
     let n = closing_line(line, cases, differing);

@@ -5,4 +5,4 @@ use Rattle.report_lines.proofs.archive_refused_line.Goals as goal
 
 pub returns : goal.returns
 unfolding archive_refused_line
-returns c = search ◌then◌
+returns c = (rw c.from.ensures at c.append_field.ensures) then c.end_line.ensures

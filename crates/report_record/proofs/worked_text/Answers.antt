@@ -6,5 +6,5 @@ use Rattle.report_record.proofs.worked_text.Goals as goal
 pub returns : goal.returns
 unfolding worked_text
 returns c =
-    let exits = c.record_line-p.ensures then c.exit_line-p.ensures then c.exit_line-p-2.ensures then c.exit_line-p-3.ensures in
-    exits then c.access_line-p.ensures then c.blocked_line.ensures
+    let exits = c.record_line.ensures then c.exit_line.ensures then c.exit_line-2.ensures then c.exit_line-3.ensures in
+    exits then c.access_line.ensures then c.blocked_line.ensures

@@ -4,7 +4,7 @@ use Rattle.page.specs.Laws.{line_ended}
 use Rattle.sheet_page.proofs.columns_line.Goals as goal
 
 pub end_line-requires : goal.end_line-requires
-end_line-requires c = wrote_on c.append_columns-p.ensures
+end_line-requires c = wrote_on c.append_columns.ensures
 
 pub returns : goal.returns
-returns c = line_ended c.append_columns-p.ensures c.end_line.ensures
+returns c = line_ended c.append_columns.ensures c.end_line.ensures

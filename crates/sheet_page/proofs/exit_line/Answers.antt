@@ -4,7 +4,7 @@ use Rattle.page.specs.Laws.{line_ended}
 use Rattle.sheet_page.proofs.exit_line.Goals as goal
 
 pub end_line-requires : goal.end_line-requires
-end_line-requires c = wrote_on c.exit_words-p.ensures
+end_line-requires c = wrote_on c.exit_words.ensures
 
 pub returns : goal.returns
-returns c = line_ended c.exit_words-p.ensures c.end_line.ensures
+returns c = line_ended c.exit_words.ensures c.end_line.ensures

@@ -6,4 +6,4 @@ use Rattle.sheet_page.proofs.exit_lines.Goals as goal
 
 pub returns : goal.returns
 unfolding lines
-returns c = rw (append-nil, ← append_assoc) (c.exit_line-p.ensures then c.exit_line-p-2.ensures then c.exit_line.ensures)
+returns c = rw (append-nil, ← append_assoc) (c.exit_line.ensures then c.exit_line-2.ensures then c.exit_line-3.ensures)

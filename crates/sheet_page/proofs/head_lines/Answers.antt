@@ -7,5 +7,5 @@ use Rattle.sheet_page.proofs.head_lines.Goals as goal
 pub returns : goal.returns
 unfolding head_lines
 returns c =
-    let pairs = rw c.into.ensures at c.pair_lines-p.ensures in
-    rw (lines_append, lines_append, line_alone) (c.record_line-p.ensures then pairs then c.exit_lines.ensures)
+    let pairs = rw c.into.ensures at c.pair_lines.ensures in
+    rw (lines_append, lines_append, line_alone) (c.record_line.ensures then pairs then c.exit_lines.ensures)

@@ -7,5 +7,5 @@ use Rattle.sheet_page.proofs.pair_lines.Goals as goal
 pub returns : goal.returns
 unfolding lines
 returns c =
-    let signalised = c.pair_line-p.ensures then c.pair_line-p-2.ensures then c.pair_line-p-3.ensures in
-    rw append-nil (simp append_assoc at (signalised then c.pair_line.ensures))
+    let signalised = c.pair_line.ensures then c.pair_line-2.ensures then c.pair_line-3.ensures in
+    rw append-nil (simp append_assoc at (signalised then c.pair_line-4.ensures))

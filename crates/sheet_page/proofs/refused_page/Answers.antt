@@ -5,9 +5,9 @@ use Rattle.page.specs.Laws.{line_ended, line_alone}
 use Rattle.sheet_page.specs.SheetPage.{refused_page}
 use Rattle.sheet_page.proofs.refused_page.Goals as goal
 
-pub end_line-p-requires : goal.end_line-p-requires
-end_line-p-requires c = wrote_on c.refused_words-p.ensures
+pub end_line-requires : goal.end_line-requires
+end_line-requires c = wrote_on c.refused_words.ensures
 
 pub returns : goal.returns
 unfolding refused_page page
-returns c = rw line_alone (line_ended c.refused_words-p.ensures c.end_line-p.ensures then c.end_page.ensures)
+returns c = rw line_alone (line_ended c.refused_words.ensures c.end_line.ensures then c.end_page.ensures)

@@ -1,6 +1,12 @@
--- The digits are spelt first; then the blanks that they lack, then the digits are put.
-use Rattle.text.proofs.Columns.{column_put}
+-- The blanks that the digits lack, then the digits.
+use Rattle.std.proofs.Common.{◌∙◌}
+use Rattle.buffer.proofs.Pieces.{◌then◌}
+use Rattle.text.specs.Text.{column}
+use Rattle.text.proofs.Printed.{decimal_printed}
 use Rattle.text.proofs.append_column.Goals as goal
 
 pub returns : goal.returns
-returns c = column_put _ c.spell-start.ensures c.lacking.ensures c.append_blanks-p.ensures c.put.ensures
+unfolding column
+returns c =
+    let same = c.as_bytes-digits.ensures.value ∙ c.format.ensures.text ∙ decimal_printed _ c.ranges.n.fits in
+    (rw (c.saturating_sub.ensures, same) at c.put_run.ensures) then (rw same at c.put.ensures)

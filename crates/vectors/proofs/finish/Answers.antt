@@ -1,6 +1,6 @@
 -- What is written is the part of the buffer that holds the line.
 use Rattle.std.proofs.Common.{ℕ, List, ap, sym, length-take-le, arith}
-use Rattle.buffer.specs.Buffer.{Cursor, cursor, next_place, put, Wrote}
+use Rattle.buffer.specs.Buffer.{Cursor, cursor, next_place, put, WroteAt}
 use Rattle.buffer.proofs.Pieces.{wrote_within}
 use Rattle.vectors.proofs.finish.Goals as goal
 
@@ -11,7 +11,7 @@ pub slice_bounds-write_all-end-2 : goal.slice_bounds-write_all-end-2
 slice_bounds-write_all-end-2 g c = sym (length-take-le _ _ (wrote_within c.closing_line-n.ensures (omega arith)))
 
 -- the place handed back is the next one, so that the line stands in the buffer also where it is not handed back
-filled : (b : List ℕ) (at : ℕ) (piece b' : List ℕ) (next : ℕ) → Wrote b at piece b' next → Wrote b at piece b' (next_place b at piece)
+filled : (b : List ℕ) (at : ℕ) (piece b' : List ℕ) (next : ℕ) → WroteAt b at piece b' next → WroteAt b at piece b' (next_place b at piece)
 unfolding put
 filled b at piece b' next w = record { is = ap (λ (c : Cursor). cursor c.buffer (next_place b at piece)) w.is }
 

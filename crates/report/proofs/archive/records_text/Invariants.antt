@@ -1,9 +1,7 @@
--- Invariant: the text so far and that of the records left are the whole. What falls: the records left.
+-- Invariant: the text so far and that of the records left are the whole.
+use Rattle.std.proofs.Common.{◌-◌}
 use Rattle.report.proofs.Records.{Reporting}
 use Rattle.report.proofs.archive.records_text.Given as goal
 
-abbrev pub invariant-loop-left : goal.invariant-loop-left
-invariant-loop-left l = Reporting l.form l.archive l.count l.initial.text l.at l.text l.left l.place l.p
-
-abbrev pub decreases-loop-left : goal.decreases-loop-left
-decreases-loop-left l = l.left
+abbrev pub invariant-loop : goal.invariant-loop
+invariant-loop l = Reporting l.form l.archive l.count l.fn.text l.text (l.count - l.counter) l.place

@@ -1,8 +1,0 @@
--- What the calls wrote, one after another, is the line: its words and its end.
-use Rattle.buffer.proofs.Pieces.{◌then◌}
-use Rattle.report_lines.specs.Lines.{exit_line}
-use Rattle.report_lines.proofs.exit_line.Goals as goal
-
-pub returns : goal.returns
-unfolding exit_line
-returns c = search ◌then◌
