@@ -1,7 +1,9 @@
 -- The text of one record, and of the records of an archive one after another.
-use Rattle.std.specs.Prelude.{ℕ, suc, ◌+◌, ◌-◌, ◌≤◌, ◌≡◌, List, length, take, drop}
+use Rattle.std.specs.Prelude.{ℕ, suc, ◌+◌, ◌-◌, ◌≤◌, ◌≡◌, List, length, take, drop, Result, Ok, Err}
 use Rattle.std.proofs.Common.{arith, ap, sym, ◌∙◌}
 use Rattle.limits.specs.Limits.{most_cycle}
+use Rattle.refusal.specs.declared.Refusal.{Refusal}
+use Rattle.refusal.specs.Refusal.{number}
 use Rattle.octets.specs.Octets.{word2, word4}
 use Rattle.buffer.specs.Buffer.{Wrote}
 use Rattle.buffer.specs.Pieces.{Appending}
@@ -11,13 +13,15 @@ use Rattle.segment.specs.Layout.{size, cycle_at}
 use Rattle.segment.specs.Segment.{segment_of}
 use Rattle.propagation.specs.Propagation.{Profiles}
 use Rattle.propagation.specs.Steps.{Room}
+use Rattle.balance_decision.specs.declared.Unworked.{Unworked}
 use Rattle.working_outcome.specs.declared.Working.{Working}
 use Rattle.working.specs.Working.{Called, called, Works, call_of}
 use Rattle.working.proofs.Ways.{call_worked}
-use Rattle.archive_format.specs.Archive.{decode, first_edition, next_at, filed_from}
-use Rattle.archive_open.specs.declared.Opened.TheVariants.{Invalid}
-use Rattle.archive_open.specs.Opening.{opened_of, invalid, Held, held_filed}
-use Rattle.archive_open.specs.Walking.{Walk, walk_on}
+use Rattle.archive_format.specs.declared.Edition.{Edition}
+use Rattle.archive_format.specs.Archive.{first_edition, next_at, filed_from}
+use Rattle.archive_open.specs.declared.Archive.{Archive}
+use Rattle.archive_open.specs.Opened.{Opens, held, held_filed}
+use Rattle.archive_open.specs.Walking.{Walk, walk, walk_on}
 use Rattle.report_lines.specs.Lines.{archive_refused_line}
 use Rattle.sheet_page.specs.SheetPage.{RunStands}
 use Rattle.report.specs.declared.Form.{Form}
@@ -26,28 +30,28 @@ use Rattle.report.specs.Working.{same_text, longest_room}
 
 -- ---- one record
 
-module _ (l : List ℕ) {p p' : Profiles} {w : Working} (room : Room most_cycle p) (works : Works l p w p') {cycle : ℕ} (es : cycle ≡ word2 l cycle_at) where
+module _ (l : List ℕ) {p p' : Profiles} {r : Result Working Unworked} (room : Room most_cycle p) (works : Works l p r p') {cycle : ℕ} (es : cycle ≡ word2 l cycle_at) where
   -- what is printed of the call is printed of the record
   worked_alone : (form : Form) {number : ℕ} → number ≡ word4 l 0 → {b : List ℕ} {at : ℕ} {b' : List ℕ} {q : ℕ} →
-      Wrote b at (text_in form number cycle (called w p')) b' q → Wrote b at (segment_text form l) b' q
+      Wrote b at (text_in form number cycle (called r p')) b' q → Wrote b at (segment_text form l) b' q
   unfolding segment_text segment_of
   worked_alone form {number} en v =
-      let same : text_in form number cycle (called w p') ≡ text_in form (word4 l 0) (segment_of l).cycle (call_of l longest) =
+      let same : text_in form number cycle (called r p') ≡ text_in form (word4 l 0) (segment_of l).cycle (call_of l longest) =
       rw (en, es, works.is) (same_text form (word4 l 0) l p longest room longest_room) in
       rw same at v
 
   -- by the form that was matched
   pub worked_in : {form : Form} (f : Form) → form ≡ f → {number : ℕ} → number ≡ word4 l 0 → {b : List ℕ} {at : ℕ} {b' : List ℕ} {q : ℕ} →
-      Wrote b at (text_in f number cycle (called w p')) b' q → Wrote b at (segment_text form l) b' q
+      Wrote b at (text_in f number cycle (called r p')) b' q → Wrote b at (segment_text form l) b' q
   worked_in f e en v = rw e (worked_alone f en v)
 
   -- and where it has worked, the output holds its through run
-  pub run_stands : length p'.output ≡ length p.output → RunStands cycle w p'.output
+  pub run_stands : length p'.output ≡ length p.output → RunStands cycle r p'.output
   unfolding segment_of
   run_stands kept =
       record {
-        worked = λ x e.
-            let b = call_worked l p x (sym (ap (λ (c : Called). c.answer.outcome) works.is) ∙ e) in
+        worked = λ w e.
+            let b = call_worked l p w (sym (ap (λ (c : Called). c.answer) works.is) ∙ e) in
             let same : cycle ≡ b.segment.cycle = es ∙ sym (ap (λ (s : Segment). s.cycle) b.accepted.is) in
             omega (arith, b.accepted.ranges.cycle, room.output);
       }
@@ -76,12 +80,16 @@ module _ {form : Form} {l : List ℕ} {count : ℕ} {b₀ : List ℕ} {at : ℕ}
 
 -- ---- the archive
 
-module _ (form : Form) (l : List ℕ) {b : List ℕ} {at : ℕ} {b' : List ℕ} {p : ℕ} where
-  pub archive_refused : (k : ℕ) → opened_of (decode first_edition l) ≡ Invalid k → Wrote b at (archive_refused_line k) b' p → Wrote b at (archive_text form l) b' p
+module _ {e : Edition} (first : e ≡ first_edition) (form : Form) (l : List ℕ) {b : List ℕ} {at : ℕ} {b' : List ℕ} {p : ℕ} where
+  pub archive_refused : (r : Refusal) → Opens e l (Err r) → Wrote b at (archive_refused_line (number r)) b' p → Wrote b at (archive_text form l) b' p
   unfolding archive_text
-  archive_refused k o v = rw (invalid first_edition l k o) v
+  archive_refused r o v = rw (rw first at o) v
 
-  pub archive_read : {count t last : ℕ} → Held first_edition l count t last →
-      Wrote b at (records_text form (filed_from size count l 0)) b' p → Wrote b at (archive_text form l) b' p
+  pub archive_read : (a : Archive) → Opens e l (Ok a) →
+      Wrote b at (records_text form (filed_from size a.count l 0)) b' p → Wrote b at (archive_text form l) b' p
   unfolding archive_text
-  archive_read h v = rw (held_filed first_edition l h) v
+  archive_read a o v = rw (rw first at (held_filed e l (held a o))) v
+
+-- it is walked from its first record
+pub walked : {e : Edition} → e ≡ first_edition → {l : List ℕ} (a : Archive) → Opens e l (Ok a) → Walk size l a.count 0
+walked first a o = rw (o.0 ∙ first) at (rw o.1 at (walk a))
