@@ -1,8 +1,10 @@
 -- The text of one record, and of the records of an archive one after another.
-use Rattle.std.specs.Prelude.{ℕ, suc, ◌+◌, ◌-◌, ◌≤◌, ◌<◌, ◌≡◌, List, length, take, drop}
+use Rattle.std.specs.Prelude.{ℕ, suc, ◌+◌, ◌-◌, ◌≤◌, ◌<◌, ◌≡◌, List, length, take, drop, Result, Ok, Err}
 use Rattle.std.proofs.Common.{arith, ap, sym, ◌∙◌}
 use Rattle.std.proofs.Math.Nat.{sub-zero}
 use Rattle.limits.specs.Limits.{most_cycle}
+use Rattle.refusal.specs.declared.Refusal.{Refusal}
+use Rattle.refusal.specs.Refusal.{number}
 use Rattle.octets.specs.Octets.{word2, word4}
 use Rattle.buffer.specs.declared.Writer.{Writer}
 use Rattle.buffer.specs.Buffer.{Wrote}
@@ -13,13 +15,15 @@ use Rattle.segment.specs.Layout.{size, cycle_at}
 use Rattle.segment.specs.Segment.{segment_of}
 use Rattle.propagation.specs.Propagation.{Profiles}
 use Rattle.propagation.specs.Steps.{Room}
+use Rattle.balance_decision.specs.declared.Unworked.{Unworked}
 use Rattle.working_outcome.specs.declared.Working.{Working}
 use Rattle.working.specs.Working.{Called, called, Works, call_of}
 use Rattle.working.proofs.Ways.{call_worked}
-use Rattle.archive_format.specs.Archive.{decode, first_edition, next_at, filed_from}
-use Rattle.archive_open.specs.declared.Opened.TheVariants.{Invalid}
-use Rattle.archive_open.specs.Opening.{opened_of, invalid, Held, held_filed}
-use Rattle.archive_open.specs.Walking.{Walk, walk_on}
+use Rattle.archive_format.specs.declared.Edition.{Edition}
+use Rattle.archive_format.specs.Archive.{first_edition, next_at, filed_from}
+use Rattle.archive_open.specs.declared.Archive.{Archive}
+use Rattle.archive_open.specs.Opened.{Opens, held, held_filed}
+use Rattle.archive_open.specs.Walking.{Walk, walk, walk_on}
 use Rattle.report_lines.specs.Lines.{archive_refused_line}
 use Rattle.sheet_page.specs.SheetPage.{RunStands}
 use Rattle.report.specs.declared.Form.{Form}
@@ -28,28 +32,28 @@ use Rattle.report.specs.Working.{same_text, longest_room}
 
 -- ---- one record
 
-module _ (l : List ℕ) {p p' : Profiles} {w : Working} (room : Room most_cycle p) (works : Works l p w p') {cycle : ℕ} (es : cycle ≡ word2 l cycle_at) where
+module _ (l : List ℕ) {p p' : Profiles} {r : Result Working Unworked} (room : Room most_cycle p) (works : Works l p r p') {cycle : ℕ} (es : cycle ≡ word2 l cycle_at) where
   -- what is printed of the call is printed of the record
   worked_alone : (form : Form) {number : ℕ} → number ≡ word4 l 0 → {t t' : Writer} →
-      Wrote t (text_in form number cycle (called w p')) t' → Wrote t (segment_text form l) t'
+      Wrote t (text_in form number cycle (called r p')) t' → Wrote t (segment_text form l) t'
   unfolding segment_text segment_of
   worked_alone form {number} en v =
-      let same : text_in form number cycle (called w p') ≡ text_in form (word4 l 0) (segment_of l).cycle (call_of l longest) =
+      let same : text_in form number cycle (called r p') ≡ text_in form (word4 l 0) (segment_of l).cycle (call_of l longest) =
       rw (en, es, works.is) (same_text form (word4 l 0) l p longest room longest_room) in
       rw same at v
 
   -- by the form that was matched
   pub worked_in : {form : Form} (f : Form) → form ≡ f → {number : ℕ} → number ≡ word4 l 0 → {t t' : Writer} →
-      Wrote t (text_in f number cycle (called w p')) t' → Wrote t (segment_text form l) t'
+      Wrote t (text_in f number cycle (called r p')) t' → Wrote t (segment_text form l) t'
   worked_in f e en v = rw e (worked_alone f en v)
 
   -- and where it has worked, the output holds its through run
-  pub run_stands : length p'.output ≡ length p.output → RunStands cycle w p'.output
+  pub run_stands : length p'.output ≡ length p.output → RunStands cycle r p'.output
   unfolding segment_of
   run_stands kept =
       record {
-        worked = λ x e.
-            let b = call_worked l p x (sym (ap (λ (c : Called). c.answer.outcome) works.is) ∙ e) in
+        worked = λ w e.
+            let b = call_worked l p w (sym (ap (λ (c : Called). c.answer) works.is) ∙ e) in
             let same : cycle ≡ b.segment.cycle = es ∙ sym (ap (λ (s : Segment). s.cycle) b.accepted.is) in
             omega (arith, b.accepted.ranges.cycle, room.output);
       }
@@ -79,12 +83,16 @@ module _ {form : Form} {l : List ℕ} {count : ℕ} {t₀ t : Writer} {i place :
 
 -- ---- the archive
 
-module _ (form : Form) (l : List ℕ) {t t' : Writer} where
-  pub archive_refused : (k : ℕ) → opened_of (decode first_edition l) ≡ Invalid k → Wrote t (archive_refused_line k) t' → Wrote t (archive_text form l) t'
+module _ {e : Edition} (first : e ≡ first_edition) (form : Form) (l : List ℕ) {t t' : Writer} where
+  pub archive_refused : (r : Refusal) → Opens e l (Err r) → Wrote t (archive_refused_line (number r)) t' → Wrote t (archive_text form l) t'
   unfolding archive_text
-  archive_refused k o v = rw (invalid first_edition l k o) v
+  archive_refused r o v = rw (rw first at o) v
 
-  pub archive_read : {count p last : ℕ} → Held first_edition l count p last →
-      Wrote t (records_text form (filed_from size count l 0)) t' → Wrote t (archive_text form l) t'
+  pub archive_read : (a : Archive) → Opens e l (Ok a) →
+      Wrote t (records_text form (filed_from size a.count l 0)) t' → Wrote t (archive_text form l) t'
   unfolding archive_text
-  archive_read h v = rw (held_filed first_edition l h) v
+  archive_read a o v = rw (rw first at (held_filed e l (held a o))) v
+
+-- it is walked from its first record
+pub walked : {e : Edition} → e ≡ first_edition → {l : List ℕ} (a : Archive) → Opens e l (Ok a) → Walk size l a.count 0
+walked first a o = rw (o.0 ∙ first) at (rw o.1 at (walk a))

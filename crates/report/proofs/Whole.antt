@@ -1,8 +1,9 @@
 -- Laws of specs/Whole.antt: How long the text gets, and the room that holds all of it.
-use Rattle.std.specs.Prelude.{ℕ, zero, suc, ◌+◌, ◌*◌, ◌≤◌, ◌<◌, Bool, true, false, cond, ◌≡◌, refl, List, ltb, length, take, drop, Ok, Err}
-use Rattle.std.proofs.Common.{arith, length-append, take_at, get_or-drop, le-leb}
-use Rattle.std.proofs.lemmas.Bool.{lt-leb}
-use Rattle.refusal.specs.Refusal.{Or, need}
+use Rattle.std.specs.Prelude.{ℕ, zero, suc, ◌+◌, ◌*◌, ◌≤◌, Bool, true, false, cond, ◌≡◌, refl, List, leb, ltb, length, take, drop, Ok, Err}
+use Rattle.std.proofs.Common.{arith, sym, length-append, take_at, get_or-drop, le-leb}
+use Rattle.refusal.specs.declared.Refusal.{Refusal}
+use Rattle.refusal.specs.declared.Refusal.TheVariants.{BufferRoom}
+use Rattle.refusal.specs.Refusal.{Or, need, fails}
 use Rattle.octets.specs.Octets.{word4}
 use Rattle.buffer.specs.Buffer.{WroteAt}
 use Rattle.buffer.proofs.Pieces.{wrote_fits}
@@ -10,8 +11,6 @@ use Rattle.segment.specs.Layout.{number_at}
 use Rattle.segment.specs.Segment.{segment_of}
 use Rattle.working.specs.Working.{call_of}
 use Rattle.working.proofs.Ways.{call_number}
-use Rattle.archive_format.specs.declared.Answer.{Answer}
-use Rattle.archive_format.specs.declared.Answer.TheVariants.{Value, Refused}
 use Rattle.archive_format.specs.Archive.{record_limit, Filed, next_at, filed_from, count_at, decode, first_edition, Writes}
 use Rattle.archive_format.specs.Reading.{reads}
 use Rattle.report_lines.specs.Lines.{archive_refused_line}
@@ -32,7 +31,7 @@ segment_text_lem Sheet bytes h =
     omega (
       arith,
       record_long (word4 bytes number_at) (segment_of bytes).cycle (call_of bytes longest).answer (call_of bytes longest).after.output
-          (omega (arith, number_small bytes h)) (omega (arith, call_number bytes longest)) (called_sized bytes h longest),
+          (omega (arith, number_small bytes h)) (called_sized bytes h longest) (λ u e. omega (arith, call_number bytes longest u e)),
     )
 
 -- a part of a list of bytes is one
@@ -61,7 +60,7 @@ unfolding archive_text
 archive_text_lem form l h = go (decode first_edition l) refl
   where
     go : (x : Or (List Filed)) → decode first_edition l ≡ x → length (read_text form x) ≤ text_room form
-    go (Err k) e = line_room_lem form k
+    go (Err r) e = line_room_lem form _
     go (Ok fs) e =
         let m = reads first_edition l fs e in
         rw (← m.held) (omega (arith, records_text_lem form l h first_edition.size (count_at l) 0, most_room form (count_at l) m.many))
@@ -77,13 +76,15 @@ input_text_lem form l h = go (ltb input_limit (length l))
 -- ---- the calls
 
 -- a buffer that is too short is refused, and stays
-pub text_short : (form : Form) (l t : List ℕ) {room : ℕ} → room ≡ text_room form → length t < room → Writes (text_of form l (length t)) t (Refused 17) t
-unfolding need
-text_short form l t e h = let short = lt-leb (text_room form) (length t) (rw e at h) in record { answer = rw short; buffer = rw short }
+pub text_short : (form : Form) (l t : List ℕ) {room : ℕ} → room ≡ text_room form → (r : Refusal) {v : Or (Unit {0})} →
+    v ≡ need BufferRoom (leb room (length t)) (Ok tt) → v ≡ Err r → Writes (text_of form l (length t)) t (Err r) t
+text_short form l t e r {v} d was =
+    let is : Err r ≡ text_of form l (length t) = fails BufferRoom r (leb (text_room form) (length t)) v (Ok (input_text form l)) (rw e at d) was in
+    rw (sym is) (record { answer = refl; buffer = refl })
 
 -- one that has room holds the whole text, and what stood behind it
 pub text_whole : (form : Form) (l t : List ℕ) → Bytes l → {room : ℕ} → room ≡ text_room form → room ≤ length t →
-    {t' : List ℕ} {n : ℕ} → WroteAt t 0 (input_text form l) t' n → Writes (text_of form l (length t)) t (Value n) t'
+    {t' : List ℕ} {n : ℕ} → WroteAt t 0 (input_text form l) t' n → Writes (text_of form l (length t)) t (Ok n) t'
 unfolding need
 text_whole form l t bytes e roomy w =
     let h : text_room form ≤ length t = rw e at roomy in
@@ -91,7 +92,7 @@ text_whole form l t bytes e roomy w =
     let z : 0 + length (input_text form l) ≡ length (input_text form l) = omega arith in
     rw (le-leb _ _ h) (record { answer = rw (fits.1, z); buffer = rw z at fits.0 })
 
-whole_text : (form : Form) (l t : List ℕ) {r : Answer} {t' : List ℕ} → text_room form ≤ length t → Writes (text_of form l (length t)) t r t' → Text form l t' r
+whole_text : (form : Form) (l t : List ℕ) {r : Or ℕ} {t' : List ℕ} → text_room form ≤ length t → Writes (text_of form l (length t)) t r t' → Text form l t' r
 unfolding need
 whole_text form l t {r} {t'} h w =
     let v = rw (le-leb (text_room form) (length t) h) at w in
@@ -101,15 +102,15 @@ whole_text form l t {r} {t'} h w =
       is = rw v.buffer (take_at (input_text form l) (drop (length (input_text form l)) t) _ refl);
     }
 
-pub report_text : (l t : List ℕ) {r : Answer} {t' : List ℕ} → text_room Lines ≤ length t → Writes (report_of l (length t)) t r t' → Text Lines l t' r
+pub report_text : (l t : List ℕ) {r : Or ℕ} {t' : List ℕ} → text_room Lines ≤ length t → Writes (report_of l (length t)) t r t' → Text Lines l t' r
 unfolding report_of
 report_text l t h w = whole_text Lines l t h w
 
-pub sheets_text : (l t : List ℕ) {r : Answer} {t' : List ℕ} → text_room Sheet ≤ length t → Writes (sheets_of l (length t)) t r t' → Text Sheet l t' r
+pub sheets_text : (l t : List ℕ) {r : Or ℕ} {t' : List ℕ} → text_room Sheet ≤ length t → Writes (sheets_of l (length t)) t r t' → Text Sheet l t' r
 unfolding sheets_of
 sheets_text l t h w = whole_text Sheet l t h w
 
-pub text_part : {form : Form} {l t : List ℕ} {r : Answer} {n : ℕ} → Text form l t r → r ≡ Value n → (n ≤ length t) × (take n t ≡ input_text form l)
+pub text_part : {form : Form} {l t : List ℕ} {r : Or ℕ} {n : ℕ} → Text form l t r → r ≡ Ok n → (n ≤ length t) × (take n t ≡ input_text form l)
 text_part {form} {l} {t} {r} {n} x e =
     let same : length (input_text form l) ≡ n = cc x.answer in
     (omega (arith, x.within), rw (← same) x.is)

@@ -11,9 +11,10 @@ ghost use Rattle.archive_open.specs.Walking.{Walk};
 ghost use Rattle.report.specs.Report.{archive_text, input_text, records_text, segment_text};
 
 use crate::{Form, INPUT_LIMIT};
-use archive_format::FIRST_EDITION;
-use archive_open::{Opened, next_place, open};
+use archive_format::first_edition;
+use archive_open::{Archive, next_place};
 use buffer::Writer;
+use refusal::Refusal;
 
 fn segment_text(
     form: Form,
@@ -28,10 +29,10 @@ fn segment_text(
 {
     let number = octets::word4_at(bytes, segment::NUMBER_AT);
     let cycle = octets::word2_at(bytes, segment::CYCLE_AT);
-    let w = working::work(bytes, output, first, second);
+    let answer = working::work(bytes, output, first, second);
     match form {
-        Form::Lines => report_record::record_text(text, number, cycle, w),
-        Form::Sheet => sheet_page::record_page(text, number, cycle, w, &output[..]),
+        Form::Lines => report_record::record_text(text, number, cycle, answer),
+        Form::Sheet => sheet_page::record_page(text, number, cycle, answer, &output[..]),
     }
 }
 
@@ -67,14 +68,9 @@ fn archive_text(
     requires { Room most_cycle (profiles output.old first.old second.old) }
     ensures { Wrote text.old (archive_text form archive.now) text.new }
 {
-    let opened = open(FIRST_EDITION, archive);
-    match opened {
-        Opened::Invalid(k) => report_lines::archive_refused_line(text, k),
-        Opened::Valid {
-            count,
-            trailer: _,
-            last: _,
-        } => records_text(form, text, archive, count, output, first, second),
+    match Archive::open(first_edition(), archive) {
+        Ok(read) => records_text(form, text, archive, read.count, output, first, second),
+        Err(refusal) => report_lines::archive_refused_line(text, refusal.number()),
     }
 }
 
@@ -91,7 +87,7 @@ pub(crate) fn input_text(
     ensures { Wrote text.old (input_text form archive.now) text.new }
 {
     if INPUT_LIMIT < archive.len() {
-        report_lines::archive_refused_line(text, 2);
+        report_lines::archive_refused_line(text, Refusal::Trailer.number());
     } else {
         archive_text(form, text, archive, output, first, second);
     }

@@ -1,15 +1,12 @@
 -- The refusal of an archive that does not read, or the text of the records walked from place 0.
-use Rattle.std.proofs.Common.{sym, ◌∙◌}
-use Rattle.archive_open.specs.Opening.{held}
-use Rattle.archive_open.specs.Walking.{held_walk}
-use Rattle.report.proofs.Records.{archive_refused, archive_read}
+use Rattle.report.proofs.Records.{archive_refused, archive_read, walked}
 use Rattle.report.proofs.archive.archive_text.Goals as goal
 
 pub records_text-requires : goal.records_text-requires
-records_text-requires c = (held_walk _ _ (held (sym c.open-opened.ensures ∙ c.in-Valid.is)), c.requires)
+records_text-requires c = (walked c.first_edition.ensures c.in-Ok.read c.in-Ok.ensures, c.requires)
 
-pub returns-in-Invalid : goal.returns-in-Invalid
-returns-in-Invalid c = archive_refused _ _ _ (sym c.open-opened.ensures ∙ c.in-Invalid.is) c.archive_refused_line.ensures
+pub returns-in-Ok : goal.returns-in-Ok
+returns-in-Ok c = archive_read c.first_edition.ensures _ _ c.in-Ok.read c.in-Ok.ensures c.records_text.ensures
 
-pub returns-in-Valid : goal.returns-in-Valid
-returns-in-Valid c = archive_read _ _ (held (sym c.open-opened.ensures ∙ c.in-Valid.is)) c.records_text.ensures
+pub returns-in-Err : goal.returns-in-Err
+returns-in-Err c = archive_refused c.first_edition.ensures _ _ c.in-Err.refusal c.in-Err.ensures (rw c.number.ensures at c.archive_refused_line.ensures)

@@ -5,14 +5,14 @@ use Rattle.report.proofs.Records.{worked_in, run_stands}
 use Rattle.report.proofs.archive.segment_text.Goals as goal
 
 pub record_page-requires : goal.record_page-requires
-record_page-requires c = run_stands _ {p' = profiles _ _ _} c.requires.1 c.work-w.ensures c.word2_at-cycle.ensures.0 c.work-w.auto.output
+record_page-requires c = run_stands _ {p' = profiles _ _ _} c.requires.1 c.work-answer.ensures c.word2_at-cycle.ensures.0 c.work-answer.auto.output
 
 pub returns-in-Lines : goal.returns-in-Lines
 returns-in-Lines c =
-    worked_in _ {p' = profiles _ _ _} c.requires.1 c.work-w.ensures c.word2_at-cycle.ensures.0 Lines c.in-Lines.is
+    worked_in _ {p' = profiles _ _ _} c.requires.1 c.work-answer.ensures c.word2_at-cycle.ensures.0 Lines c.in-Lines.is
     c.word4_at-number.ensures c.record_text.ensures
 
 pub returns-in-Sheet : goal.returns-in-Sheet
 returns-in-Sheet c =
-    worked_in _ {p' = profiles _ _ _} c.requires.1 c.work-w.ensures c.word2_at-cycle.ensures.0 Sheet c.in-Sheet.is
+    worked_in _ {p' = profiles _ _ _} c.requires.1 c.work-answer.ensures c.word2_at-cycle.ensures.0 Sheet c.in-Sheet.is
     c.word4_at-number.ensures c.record_page.ensures
