@@ -11,7 +11,6 @@ use balance_decision::Outcome;
 use balance_flows::{FlowTable, Flows};
 use movements::{Counts, Seeds};
 use std::io;
-use std::io::Read;
 
 fn counts_at(s: &[u8], at: usize) -> Counts
     requires { at + 16 ≤ length s.now }
@@ -149,30 +148,7 @@ fn case_differs(s: &[u8]) -> bool
     answer_differs(s, o, counts_at(s, 16), seeds_at(s, 32))
 }
 
-fn next_differs<R: Read>(input: &mut R) -> io::Result<bool> {
-    let mut buf = [0u8; 260];
-    let n = vectors::read_case(input, &mut buf)?;
-    let body = &buf[0..n];
-    if body.len() < 260 {
-        return Ok(true);
-    }
-    Ok(case_differs(body))
-}
-
 fn main(rt: HostRuntime) -> io::Result<()> {
-    let mut input = rt.stdin();
-    let mut output = rt.stdout();
-    let mut word = [0u8; 4];
-    let cases = vectors::read_word(&mut input, &mut word)?;
-    let mut differing: u32 = 0;
-    let mut i: u32 = 0;
-    while i < cases {
-        if next_differs(&mut input)? {
-            differing = vectors::differing(&mut output, i, differing)?;
-        }
-        i += 1;
-    }
-    let mut line = [0u8; 64];
-    vectors::finish(&mut output, &mut line, cases, differing)?;
-    Ok(())
+    let mut body = [0u8; 260];
+    vectors::run(&mut rt.stdin(), &mut rt.stdout(), &mut body, case_differs)
 }

@@ -2,17 +2,10 @@
 #![tactic(auto)]
 
 ghost use Rattle.std.specs.Prelude.{◌+◌, ◌*◌, ◌≤◌, length};
-ghost use Rattle.discharge_vectors.specs.Room.{room};
 
 use discharge::Discharged;
 use std::io;
-use std::io::Read;
-
-// The longest profile that a case lends.
-const ROOM: usize = 1000;
-
-// A lent profile holds the numbers from this on.
-const FROM: u32 = 3000000000;
+use vectors::ROOM;
 
 fn answer_differs(expected: &[u8], answer: Discharged) -> bool
     requires { 16 ≤ length expected.now }
@@ -38,60 +31,33 @@ fn answer_differs(expected: &[u8], answer: Discharged) -> bool
 
 // One call, on a profile lent with a pattern: the answer, then every number of the profile.
 fn call_differs(record: &[u8], expected: &[u8], profile: &mut [u32]) -> bool
-    requires { (16 + 4 * length profile.old ≤ length expected.now) × (length profile.old ≤ room) }
+    requires { (16 + 4 * length profile.old ≤ length expected.now) × (length profile.old ≤ ROOM) }
 {
-    vectors::fill_pattern(profile, FROM);
+    vectors::fill_pattern(profile, vectors::OUTPUT_FROM);
     let answer = discharge::discharge(record, profile);
-    answer_differs(expected, answer) | vectors::numbers_differ(expected, 16, &profile[..])
+    answer_differs(expected, answer) | vectors::numbers_differ(expected, 16, profile)
 }
 
-fn body_differs(record: &[u8], expected: &[u8], m: usize) -> bool
-    requires { 16 + 4 * m ≤ length expected.now }
+// After the record the profile's length and what must be answered; a profile longer than the longest differs.
+fn expected_differs(record: &[u8], rest: &[u8]) -> bool
+    requires { 18 ≤ length rest.now }
 {
-    let mut profile = [0u32; ROOM];
-    if ROOM < m {
+    let m = octets::word2_at(rest, 0) as usize;
+    if ROOM < m || rest.len() != 18 + 4 * m {
         return true;
     }
-    call_differs(record, expected, &mut profile[0..m])
+    let mut profile = [0u32; ROOM];
+    call_differs(record, &rest[2..], &mut profile[..m])
 }
 
 fn case_differs(body: &[u8]) -> bool {
-    if body.len() < 20 {
-        return true;
+    match vectors::record_of(body) {
+        Some((record, rest)) if rest.len() >= 18 => expected_differs(record, rest),
+        _ => true,
     }
-    let size = octets::word2_at(body, 0) as usize;
-    let lent = 2 + size;
-    let at = lent + 2;
-    if body.len() < at + 16 {
-        return true;
-    }
-    let m = octets::word2_at(body, lent) as usize;
-    if body.len() != at + 16 + 4 * m {
-        return true;
-    }
-    body_differs(&body[2..lent], &body[at..], m)
-}
-
-fn next_differs<R: Read>(input: &mut R) -> io::Result<bool> {
-    let mut body = [0u8; 4096];
-    let n = vectors::read_case(input, &mut body)?;
-    Ok(case_differs(&body[0..n]))
 }
 
 fn main(rt: HostRuntime) -> io::Result<()> {
-    let mut input = rt.stdin();
-    let mut output = rt.stdout();
-    let mut word = [0u8; 4];
-    let cases = vectors::read_word(&mut input, &mut word)?;
-    let mut differing: u32 = 0;
-    let mut i: u32 = 0;
-    while i < cases {
-        if next_differs(&mut input)? {
-            differing = vectors::differing(&mut output, i, differing)?;
-        }
-        i += 1;
-    }
-    let mut line = [0u8; 64];
-    vectors::finish(&mut output, &mut line, cases, differing)?;
-    Ok(())
+    let mut body = [0u8; 4096];
+    vectors::run(&mut rt.stdin(), &mut rt.stdout(), &mut body, case_differs)
 }
