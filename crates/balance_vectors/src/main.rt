@@ -3,7 +3,7 @@
 // at 56 the rounds, at 60 the last sum, at 68 sixteen cells, at 196 sixteen pair flows.
 #![tactic(auto)]
 
-ghost use Rattle.std.specs.Prelude.{◌+◌, ◌≤◌, length};
+ghost use Rattle.std.specs.Prelude.{◌+◌, ◌≤◌};
 ghost use Rattle.balance_pairs.specs.Pairs.{WithinLimit};
 
 use balance::{Balance, Settling};
@@ -12,41 +12,20 @@ use balance_flows::{FlowTable, Flows};
 use movements::{Counts, Seeds};
 use std::io;
 
-fn counts_at(s: &[u8], at: usize) -> Counts
-    requires { at + 16 ≤ length s.now }
+fn counts_at(s: &[u8; 260], at: usize) -> Counts
+    requires { at + 16 ≤ 260 }
 {
-    Counts {
-        left: octets::word4_at(s, at),
-        through: octets::word4_at(s, at + 4),
-        right: octets::word4_at(s, at + 8),
-        access: octets::word4_at(s, at + 12),
-    }
+    Counts::read(at, 4, |at| octets::word4_at(s, at))
 }
 
-fn seed_row_at(s: &[u8], at: usize) -> Counts
-    requires { at + 4 ≤ length s.now }
+fn seeds_at(s: &[u8; 260], at: usize) -> Seeds
+    requires { at + 16 ≤ 260 }
 {
-    Counts {
-        left: octets::byte_at(s, at),
-        through: octets::byte_at(s, at + 1),
-        right: octets::byte_at(s, at + 2),
-        access: octets::byte_at(s, at + 3),
-    }
+    Seeds::read(at, 4, |at| Counts::read(at, 1, |at| octets::byte_at(s, at)))
 }
 
-fn seeds_at(s: &[u8], at: usize) -> Seeds
-    requires { at + 16 ≤ length s.now }
-{
-    Seeds {
-        left: seed_row_at(s, at),
-        through: seed_row_at(s, at + 4),
-        right: seed_row_at(s, at + 8),
-        access: seed_row_at(s, at + 12),
-    }
-}
-
-fn cell_row_differs(s: &[u8], at: usize, x: Flows) -> bool
-    requires { at + 32 ≤ length s.now }
+fn cell_row_differs(s: &[u8; 260], at: usize, x: Flows) -> bool
+    requires { at + 32 ≤ 260 }
 {
     vectors::float_differs(s, at, x.left)
         | vectors::float_differs(s, at + 8, x.through)
@@ -54,8 +33,8 @@ fn cell_row_differs(s: &[u8], at: usize, x: Flows) -> bool
         | vectors::float_differs(s, at + 24, x.access)
 }
 
-fn cells_differ(s: &[u8], at: usize, x: FlowTable) -> bool
-    requires { at + 128 ≤ length s.now }
+fn cells_differ(s: &[u8; 260], at: usize, x: FlowTable) -> bool
+    requires { at + 128 ≤ 260 }
 {
     cell_row_differs(s, at, x.left)
         | cell_row_differs(s, at + 32, x.through)
@@ -63,15 +42,11 @@ fn cells_differ(s: &[u8], at: usize, x: FlowTable) -> bool
         | cell_row_differs(s, at + 96, x.access)
 }
 
-fn outcome_differs(s: &[u8], outcome: u32, rounds: u32) -> bool
-    requires { 260 ≤ length s.now }
-{
+fn outcome_differs(s: &[u8; 260], outcome: u32, rounds: u32) -> bool {
     (octets::word4_at(s, 52) != outcome) | (octets::word4_at(s, 56) != rounds)
 }
 
-fn balance_differs(s: &[u8], x: Balance) -> bool
-    requires { 260 ≤ length s.now }
-{
+fn balance_differs(s: &[u8; 260], x: Balance) -> bool {
     let settling = x.settling;
     let cells = cells_differ(s, 68, x.cells);
     match settling {
@@ -85,9 +60,7 @@ fn balance_differs(s: &[u8], x: Balance) -> bool
 }
 
 // No settling was run: no rounds, no sum, no cells.
-fn unrun_differs(s: &[u8]) -> bool
-    requires { 260 ≤ length s.now }
-{
+fn unrun_differs(s: &[u8; 260]) -> bool {
     let none = Flows {
         left: 0.0,
         through: 0.0,
@@ -103,9 +76,7 @@ fn unrun_differs(s: &[u8]) -> bool
     outcome_differs(s, 2, 0) | vectors::float_differs(s, 60, 0.0) | cells_differ(s, 68, table)
 }
 
-fn decision_differs(s: &[u8], outcome: Outcome, rounds: u32, b: Balance) -> bool
-    requires { 260 ≤ length s.now }
-{
+fn decision_differs(s: &[u8; 260], outcome: Outcome, rounds: u32, b: Balance) -> bool {
     match outcome {
         Outcome::Worked(sum) => {
             balance_differs(s, b) | vectors::float_differs(s, 60, sum) | (rounds != b.rounds)
@@ -117,9 +88,8 @@ fn decision_differs(s: &[u8], outcome: Outcome, rounds: u32, b: Balance) -> bool
     }
 }
 
-fn answer_differs(s: &[u8], o: Counts, exits: Counts, seeds: Seeds) -> bool
-    requires in_bounds { 260 ≤ length s.now }
-    requires within_limit { WithinLimit o }
+fn answer_differs(s: &[u8; 260], o: Counts, exits: Counts, seeds: Seeds) -> bool
+    requires { WithinLimit o }
 {
     let x = balance_decision::decide(o, exits, seeds);
     let outcome = x.outcome;
@@ -128,21 +98,14 @@ fn answer_differs(s: &[u8], o: Counts, exits: Counts, seeds: Seeds) -> bool
         | decision_differs(s, outcome, x.rounds, balance::balanced(o, exits, seeds))
 }
 
-// A discharge out of range differs.
-fn case_differs(s: &[u8]) -> bool
-    requires { 260 ≤ length s.now }
-{
+// A body of another length differs, and so does a discharge out of range.
+fn case_differs(body: &[u8]) -> bool {
+    let Some(s) = body.as_array() else {
+        return true;
+    };
     let o = counts_at(s, 0);
-    if limits::ENTRY_LIMIT < o.left {
-        return true;
-    }
-    if limits::ENTRY_LIMIT < o.through {
-        return true;
-    }
-    if limits::ENTRY_LIMIT < o.right {
-        return true;
-    }
-    if limits::ENTRY_LIMIT < o.access {
+    let limit = limits::ENTRY_LIMIT;
+    if limit < o.left || limit < o.through || limit < o.right || limit < o.access {
         return true;
     }
     answer_differs(s, o, counts_at(s, 16), seeds_at(s, 32))

@@ -2,7 +2,6 @@
 #![tactic(auto)]
 
 ghost use Rattle.std.specs.Prelude.{◌+◌, ◌≤◌, length};
-ghost use Rattle.vectors.specs.Vectors.{Lendable};
 
 use point_working::PointWorking;
 use points::{Point, Points};
@@ -19,9 +18,7 @@ fn point_at(s: &[u8], at: usize) -> Point
 }
 
 // The points of a case: their count, then eight places, given or not.
-fn points_at(s: &[u8]) -> Points
-    requires { 68 ≤ length s.now }
-{
+fn points_at(s: &[u8; 68]) -> Points {
     let at = [
         point_at(s, 4),
         point_at(s, 12),
@@ -38,71 +35,71 @@ fn points_at(s: &[u8]) -> Points
     }
 }
 
-fn counts_differ(expected: &[u8], blocked: [u32; points::POINT_ROOM]) -> bool
-    requires { 36 ≤ length expected.now }
-{
-    vectors::numbers_differ(expected, 4, &blocked)
-}
-
-// The expected numbers of a case, after its points and the profiles' lengths: number, eight counts; then the four profiles.
-fn answer_differs(expected: &[u8], answer: PointWorking) -> bool
-    requires { 36 ≤ length expected.now }
-{
+// What must be answered: number, eight counts.
+fn answer_differs(expected: &[u8; 36], answer: PointWorking) -> bool {
     let working = answer.working;
     let outcome = working.outcome;
     let blocked = answer.blocked;
     (octets::word4_at(expected, 0) != balance_decision::refusal_of(outcome))
-        | counts_differ(expected, blocked)
+        | vectors::numbers_differ(expected, 4, &blocked)
 }
 
-// One call, on profiles lent with patterns: the answer, and the four profiles after it.
-fn call_differs(record: &[u8], points: Points, expected: &[u8], profiles: &mut Profiles) -> bool
-    requires { Lendable profiles.old × (36 ≤ length expected.now) }
-{
-    profiles.fill();
-    let answer = point_working::work_points(
+fn work(record: &[u8], points: Points, lent: &mut Profiles) -> PointWorking {
+    point_working::work_points(
         record,
         points,
-        profiles.output,
-        profiles.passing,
-        profiles.first,
-        profiles.second,
-    );
-    answer_differs(expected, answer) | profiles.differ(&expected[36..])
+        lent.output,
+        lent.passing,
+        lent.first,
+        lent.second,
+    )
 }
 
-// A profile longer than the longest differs.
-fn lengths_differ(record: &[u8], rest: &[u8]) -> bool
-    requires { 120 ≤ length rest.now }
-{
-    let o = octets::word4_at(rest, 68) as usize;
-    let q = octets::word4_at(rest, 72) as usize;
-    let f = octets::word4_at(rest, 76) as usize;
-    let s = octets::word4_at(rest, 80) as usize;
-    if ROOM < o || ROOM < q || ROOM < f || ROOM < s || rest.len() != 120 + 4 * (o + q + f + s) {
+// One call, on profiles of the lengths of a case; one longer than the longest differs. Their numbers after the call come last.
+fn call_differs(
+    record: &[u8],
+    points: Points,
+    lengths: &[u8; 16],
+    expected: &[u8; 36],
+    numbers: &[u8],
+) -> bool {
+    let o = octets::word4_at(lengths, 0) as usize;
+    let q = octets::word4_at(lengths, 4) as usize;
+    let f = octets::word4_at(lengths, 8) as usize;
+    let s = octets::word4_at(lengths, 12) as usize;
+    if ROOM < o || ROOM < q || ROOM < f || ROOM < s || numbers.len() != 4 * (o + q + f + s) {
         return true;
     }
     let mut output = [0u32; ROOM];
     let mut passing = [0u32; ROOM];
     let mut first = [0u32; ROOM];
     let mut second = [0u32; ROOM];
-    let mut profiles = Profiles {
+    let mut lent = Profiles {
         output: &mut output[..o],
         passing: &mut passing[..q],
         first: &mut first[..f],
         second: &mut second[..s],
     };
-    call_differs(record, points_at(rest), &rest[84..], &mut profiles)
+    lent.fill();
+    let answer = work(record, points, &mut lent);
+    answer_differs(expected, answer) | lent.differ(numbers)
 }
 
-fn case_differs(body: &[u8]) -> bool {
-    match vectors::record_of(body) {
-        Some((record, rest)) if rest.len() >= 120 => lengths_differ(record, rest),
-        _ => true,
-    }
+// After the record stand the points, the profiles' lengths, what must be answered, and the profiles.
+fn case_differs(record: &[u8], rest: &[u8]) -> bool {
+    let Some((points, rest)) = rest.split_first_chunk() else {
+        return true;
+    };
+    let Some((lengths, rest)) = rest.split_first_chunk() else {
+        return true;
+    };
+    let Some((expected, numbers)) = rest.split_first_chunk() else {
+        return true;
+    };
+    call_differs(record, points_at(points), lengths, expected, numbers)
 }
 
 fn main(rt: HostRuntime) -> io::Result<()> {
     let mut body = [0u8; 16384];
-    vectors::run(&mut rt.stdin(), &mut rt.stdout(), &mut body, case_differs)
+    vectors::run_records(&mut rt.stdin(), &mut rt.stdout(), &mut body, case_differs)
 }

@@ -7,5 +7,11 @@ use std::io;
 fn main(rt: HostRuntime) -> io::Result<()> {
     let mut input = [0u8; INPUT_LIMIT + 1];
     let mut text = [0u8; TEXT_ROOM];
-    program::run(&mut rt.stdin(), &mut rt.stdout(), Form::Lines, &mut input, &mut text)
+    program::run(
+        &mut rt.stdin(),
+        &mut rt.stdout(),
+        Form::Lines,
+        &mut input,
+        &mut text,
+    )
 }

@@ -120,6 +120,22 @@ pub fn record_of(body: &[u8]) -> Option<(&[u8], &[u8])>
     body[2..].split_at_checked(octets::word2_at(body, 0) as usize)
 }
 
+// The same for bodies that begin with a record behind its length; one that ends within it differs.
+pub fn run_records<R: Read, W: Write, F: Fn(&[u8], &[u8]) -> bool>(
+    input: &mut R,
+    output: &mut W,
+    body: &mut [u8],
+    differs: F,
+) -> io::Result<()>
+    requires { F.IsAlwaysCallable differs }
+    ensures { OnOk result (Told (W.contents output.old) (W.contents output.new)) }
+{
+    run(input, output, body, |body| match record_of(body) {
+        Some((record, rest)) => differs(record, rest),
+        None => true,
+    })
+}
+
 // A profile as it is lent: place i holds first + i.
 pub fn fill_pattern(run: &mut [u32], first: u32)
     requires { first + length run.old ≤ 2 ^ 32 }

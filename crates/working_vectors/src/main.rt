@@ -1,41 +1,26 @@
 // Runs the working on the vectors of docs/VECTORS.md and compares the answer and every number of the three profiles.
 #![tactic(auto)]
 
-ghost use Rattle.std.specs.Prelude.{◌+◌, ◌*◌, ◌≤◌, length};
-ghost use Rattle.vectors.specs.Vectors.{Lendable};
+ghost use Rattle.std.specs.Prelude.{◌+◌, ◌≤◌};
 
-use balance_decision::Outcome;
 use exit_figures::ExitFigures;
 use std::io;
 use vectors::{Profiles, ROOM};
 use working_outcome::Working;
 
-// The expected numbers of a case, after its record and the profiles' lengths: number, last sum, platoon arrival time, rounds, pair flows,
-// three exits' figures, access total, blocked steps; then the three profiles.
-fn outcome_differs(expected: &[u8], outcome: Outcome) -> bool
-    requires { 156 ≤ length expected.now }
-{
-    let number = octets::word4_at(expected, 0);
-    match outcome {
-        Outcome::Worked(sum) => (number != 0) | vectors::float_differs(expected, 4, sum),
-        Outcome::Refused(n) => (number != n) | vectors::float_differs(expected, 4, 0.0),
-        Outcome::Unsettled(sum) => (number != 15) | vectors::float_differs(expected, 4, sum),
-    }
-}
-
-fn figures_differ(expected: &[u8], at: usize, exit: ExitFigures) -> bool
-    requires { at + 20 ≤ length expected.now }
+fn figures_differ(expected: &[u8; 156], at: usize, exit: ExitFigures) -> bool
+    requires { at + 20 ≤ 156 }
 {
     (octets::word8_at(expected, at) != exit.total)
         | (octets::word8_at(expected, at + 8) != exit.green)
         | (octets::word4_at(expected, at + 16) != exit.permille)
 }
 
-fn answer_differs(expected: &[u8], answer: Working) -> bool
-    requires { 156 ≤ length expected.now }
-{
+// What must be answered: number, last sum, platoon arrival time, rounds, pair flows, three exits' figures, access total, blocked steps.
+fn answer_differs(expected: &[u8; 156], answer: Working) -> bool {
     let outcome = answer.outcome;
-    outcome_differs(expected, outcome)
+    (octets::word4_at(expected, 0) != balance_decision::refusal_of(outcome))
+        | vectors::float_differs(expected, 4, balance_decision::last_sum_of(outcome))
         | (octets::word4_at(expected, 12) != answer.arrival)
         | (octets::word4_at(expected, 16) != answer.rounds)
         | vectors::rows_differ(expected, 20, answer.pairs.into())
@@ -46,45 +31,39 @@ fn answer_differs(expected: &[u8], answer: Working) -> bool
         | (octets::word4_at(expected, 152) != answer.blocked)
 }
 
-// One call, on profiles lent with patterns: the answer, and the three profiles after it.
-fn call_differs(record: &[u8], expected: &[u8], profiles: &mut Profiles) -> bool
-    requires { Lendable profiles.old × (156 ≤ length expected.now) }
-{
-    profiles.fill();
-    let answer = working::work(record, profiles.output, profiles.first, profiles.second);
-    answer_differs(expected, answer) | profiles.differ(&expected[156..])
+fn work(record: &[u8], lent: &mut Profiles) -> Working {
+    working::work(record, lent.output, lent.first, lent.second)
 }
 
-// A profile longer than the longest differs.
-fn lengths_differ(record: &[u8], rest: &[u8]) -> bool
-    requires { 168 ≤ length rest.now }
-{
-    let o = octets::word4_at(rest, 0) as usize;
-    let f = octets::word4_at(rest, 4) as usize;
-    let s = octets::word4_at(rest, 8) as usize;
-    if ROOM < o || ROOM < f || ROOM < s || rest.len() != 168 + 4 * (o + f + s) {
+// After the record stand the profiles' lengths, what must be answered, and the profiles after the call. A longer one than the longest differs.
+fn case_differs(record: &[u8], rest: &[u8]) -> bool {
+    let Some((lengths, rest)) = rest.split_first_chunk::<12>() else {
+        return true;
+    };
+    let Some((expected, numbers)) = rest.split_first_chunk::<156>() else {
+        return true;
+    };
+    let o = octets::word4_at(lengths, 0) as usize;
+    let f = octets::word4_at(lengths, 4) as usize;
+    let s = octets::word4_at(lengths, 8) as usize;
+    if ROOM < o || ROOM < f || ROOM < s || numbers.len() != 4 * (o + f + s) {
         return true;
     }
     let mut output = [0u32; ROOM];
     let mut first = [0u32; ROOM];
     let mut second = [0u32; ROOM];
-    let mut profiles = Profiles {
+    let mut lent = Profiles {
         output: &mut output[..o],
         passing: &mut [],
         first: &mut first[..f],
         second: &mut second[..s],
     };
-    call_differs(record, &rest[12..], &mut profiles)
-}
-
-fn case_differs(body: &[u8]) -> bool {
-    match vectors::record_of(body) {
-        Some((record, rest)) if rest.len() >= 168 => lengths_differ(record, rest),
-        _ => true,
-    }
+    lent.fill();
+    let answer = work(record, &mut lent);
+    answer_differs(expected, answer) | lent.differ(numbers)
 }
 
 fn main(rt: HostRuntime) -> io::Result<()> {
     let mut body = [0u8; 16384];
-    vectors::run(&mut rt.stdin(), &mut rt.stdout(), &mut body, case_differs)
+    vectors::run_records(&mut rt.stdin(), &mut rt.stdout(), &mut body, case_differs)
 }
