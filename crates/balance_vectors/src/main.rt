@@ -8,9 +8,10 @@ ghost use Rattle.balance_pairs.specs.Pairs.{WithinLimit};
 
 use balance::{Balance, Settling};
 use balance_decision::Outcome;
-use balance_flows::{FlowTable, Flows};
-use movements::{Counts, Seeds};
+use balance_flows::FlowTable;
+use movements::{Counts, PerMovement, Seeds};
 use std::io;
+use std::num::f64_to_bits_with_nan;
 
 fn counts_at(s: &[u8; 260], at: usize) -> Counts
     requires { at + 16 ≤ 260 }
@@ -24,56 +25,22 @@ fn seeds_at(s: &[u8; 260], at: usize) -> Seeds
     Seeds::read(at, 4, |at| Counts::read(at, 1, |at| octets::byte_at(s, at)))
 }
 
-fn cell_row_differs(s: &[u8; 260], at: usize, x: Flows) -> bool
-    requires { at + 32 ≤ 260 }
-{
-    vectors::float_differs(s, at, x.left)
-        | vectors::float_differs(s, at + 8, x.through)
-        | vectors::float_differs(s, at + 16, x.right)
-        | vectors::float_differs(s, at + 24, x.access)
-}
-
-fn cells_differ(s: &[u8; 260], at: usize, x: FlowTable) -> bool
-    requires { at + 128 ≤ 260 }
-{
-    cell_row_differs(s, at, x.left)
-        | cell_row_differs(s, at + 32, x.through)
-        | cell_row_differs(s, at + 64, x.right)
-        | cell_row_differs(s, at + 96, x.access)
-}
-
-fn outcome_differs(s: &[u8; 260], outcome: u32, rounds: u32) -> bool {
-    (octets::word4_at(s, 52) != outcome) | (octets::word4_at(s, 56) != rounds)
+// A settling as it was told: its outcome's number, rounds, last sum and cells, which are compared by their bits.
+fn settling_differs(s: &[u8; 260], outcome: u32, rounds: u32, sum: f64, cells: FlowTable) -> bool {
+    let expected = PerMovement::read(68, 32, |at| {
+        PerMovement::read(at, 8, |at| octets::word8_at(s, at))
+    });
+    (octets::word4_at(s, 52) != outcome)
+        | (octets::word4_at(s, 56) != rounds)
+        | vectors::float_differs(s, 60, sum)
+        | (cells.map(|row| row.map(|x| f64_to_bits_with_nan(x))) != expected)
 }
 
 fn balance_differs(s: &[u8; 260], x: Balance) -> bool {
-    let settling = x.settling;
-    let cells = cells_differ(s, 68, x.cells);
-    match settling {
-        Settling::Settled(sum) => {
-            cells | outcome_differs(s, 1, x.rounds) | vectors::float_differs(s, 60, sum)
-        }
-        Settling::Unsettled(sum) => {
-            cells | outcome_differs(s, 0, x.rounds) | vectors::float_differs(s, 60, sum)
-        }
+    match x.settling {
+        Settling::Settled(sum) => settling_differs(s, 1, x.rounds, sum, x.cells),
+        Settling::Unsettled(sum) => settling_differs(s, 0, x.rounds, sum, x.cells),
     }
-}
-
-// No settling was run: no rounds, no sum, no cells.
-fn unrun_differs(s: &[u8; 260]) -> bool {
-    let none = Flows {
-        left: 0.0,
-        through: 0.0,
-        right: 0.0,
-        access: 0.0,
-    };
-    let table = FlowTable {
-        left: none,
-        through: none,
-        right: none,
-        access: none,
-    };
-    outcome_differs(s, 2, 0) | vectors::float_differs(s, 60, 0.0) | cells_differ(s, 68, table)
 }
 
 fn decision_differs(s: &[u8; 260], outcome: Outcome, rounds: u32, b: Balance) -> bool {
@@ -84,7 +51,10 @@ fn decision_differs(s: &[u8; 260], outcome: Outcome, rounds: u32, b: Balance) ->
         Outcome::Unsettled(sum) => {
             balance_differs(s, b) | vectors::float_differs(s, 60, sum) | (rounds != 0)
         }
-        Outcome::Refused(_) => unrun_differs(s) | (rounds != 0),
+        // No settling was run: no rounds, no sum, no cells.
+        Outcome::Refused(_) => {
+            settling_differs(s, 2, 0, 0.0, FlowTable::default()) | (rounds != 0)
+        }
     }
 }
 
