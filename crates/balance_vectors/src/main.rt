@@ -3,110 +3,47 @@
 // at 56 the rounds, at 60 the last sum, at 68 sixteen cells, at 196 sixteen pair flows.
 #![tactic(auto)]
 
-ghost use Rattle.std.specs.Prelude.{◌+◌, ◌≤◌, length};
+ghost use Rattle.std.specs.Prelude.{◌+◌, ◌≤◌};
 ghost use Rattle.balance_pairs.specs.Pairs.{WithinLimit};
 
 use balance::{Balance, Settling};
 use balance_decision::Outcome;
-use balance_flows::{FlowTable, Flows};
-use movements::{Counts, Seeds};
+use balance_flows::FlowTable;
+use movements::{Counts, PerMovement, Seeds};
 use std::io;
-use std::io::Read;
+use std::num::f64_to_bits_with_nan;
 
-fn counts_at(s: &[u8], at: usize) -> Counts
-    requires { at + 16 ≤ length s.now }
+fn counts_at(s: &[u8; 260], at: usize) -> Counts
+    requires { at + 16 ≤ 260 }
 {
-    Counts {
-        left: octets::word4_at(s, at),
-        through: octets::word4_at(s, at + 4),
-        right: octets::word4_at(s, at + 8),
-        access: octets::word4_at(s, at + 12),
+    Counts::read(at, 4, |at| octets::word4_at(s, at))
+}
+
+fn seeds_at(s: &[u8; 260], at: usize) -> Seeds
+    requires { at + 16 ≤ 260 }
+{
+    Seeds::read(at, 4, |at| Counts::read(at, 1, |at| octets::byte_at(s, at)))
+}
+
+// A settling as it was told: its outcome's number, rounds, last sum and cells, which are compared by their bits.
+fn settling_differs(s: &[u8; 260], outcome: u32, rounds: u32, sum: f64, cells: FlowTable) -> bool {
+    let expected = PerMovement::read(68, 32, |at| {
+        PerMovement::read(at, 8, |at| octets::word8_at(s, at))
+    });
+    (octets::word4_at(s, 52) != outcome)
+        | (octets::word4_at(s, 56) != rounds)
+        | vectors::float_differs(s, 60, sum)
+        | (cells.map(|row| row.map(|x| f64_to_bits_with_nan(x))) != expected)
+}
+
+fn balance_differs(s: &[u8; 260], x: Balance) -> bool {
+    match x.settling {
+        Settling::Settled(sum) => settling_differs(s, 1, x.rounds, sum, x.cells),
+        Settling::Unsettled(sum) => settling_differs(s, 0, x.rounds, sum, x.cells),
     }
 }
 
-fn seed_row_at(s: &[u8], at: usize) -> Counts
-    requires { at + 4 ≤ length s.now }
-{
-    Counts {
-        left: octets::byte_at(s, at),
-        through: octets::byte_at(s, at + 1),
-        right: octets::byte_at(s, at + 2),
-        access: octets::byte_at(s, at + 3),
-    }
-}
-
-fn seeds_at(s: &[u8], at: usize) -> Seeds
-    requires { at + 16 ≤ length s.now }
-{
-    Seeds {
-        left: seed_row_at(s, at),
-        through: seed_row_at(s, at + 4),
-        right: seed_row_at(s, at + 8),
-        access: seed_row_at(s, at + 12),
-    }
-}
-
-fn cell_row_differs(s: &[u8], at: usize, x: Flows) -> bool
-    requires { at + 32 ≤ length s.now }
-{
-    vectors::float_differs(s, at, x.left)
-        | vectors::float_differs(s, at + 8, x.through)
-        | vectors::float_differs(s, at + 16, x.right)
-        | vectors::float_differs(s, at + 24, x.access)
-}
-
-fn cells_differ(s: &[u8], at: usize, x: FlowTable) -> bool
-    requires { at + 128 ≤ length s.now }
-{
-    cell_row_differs(s, at, x.left)
-        | cell_row_differs(s, at + 32, x.through)
-        | cell_row_differs(s, at + 64, x.right)
-        | cell_row_differs(s, at + 96, x.access)
-}
-
-fn outcome_differs(s: &[u8], outcome: u32, rounds: u32) -> bool
-    requires { 260 ≤ length s.now }
-{
-    (octets::word4_at(s, 52) != outcome) | (octets::word4_at(s, 56) != rounds)
-}
-
-fn balance_differs(s: &[u8], x: Balance) -> bool
-    requires { 260 ≤ length s.now }
-{
-    let settling = x.settling;
-    let cells = cells_differ(s, 68, x.cells);
-    match settling {
-        Settling::Settled(sum) => {
-            cells | outcome_differs(s, 1, x.rounds) | vectors::float_differs(s, 60, sum)
-        }
-        Settling::Unsettled(sum) => {
-            cells | outcome_differs(s, 0, x.rounds) | vectors::float_differs(s, 60, sum)
-        }
-    }
-}
-
-// No settling was run: no rounds, no sum, no cells.
-fn unrun_differs(s: &[u8]) -> bool
-    requires { 260 ≤ length s.now }
-{
-    let none = Flows {
-        left: 0.0,
-        through: 0.0,
-        right: 0.0,
-        access: 0.0,
-    };
-    let table = FlowTable {
-        left: none,
-        through: none,
-        right: none,
-        access: none,
-    };
-    outcome_differs(s, 2, 0) | vectors::float_differs(s, 60, 0.0) | cells_differ(s, 68, table)
-}
-
-fn decision_differs(s: &[u8], outcome: Outcome, rounds: u32, b: Balance) -> bool
-    requires { 260 ≤ length s.now }
-{
+fn decision_differs(s: &[u8; 260], outcome: Outcome, rounds: u32, b: Balance) -> bool {
     match outcome {
         Outcome::Worked(sum) => {
             balance_differs(s, b) | vectors::float_differs(s, 60, sum) | (rounds != b.rounds)
@@ -114,13 +51,15 @@ fn decision_differs(s: &[u8], outcome: Outcome, rounds: u32, b: Balance) -> bool
         Outcome::Unsettled(sum) => {
             balance_differs(s, b) | vectors::float_differs(s, 60, sum) | (rounds != 0)
         }
-        Outcome::Refused(_) => unrun_differs(s) | (rounds != 0),
+        // No settling was run: no rounds, no sum, no cells.
+        Outcome::Refused(_) => {
+            settling_differs(s, 2, 0, 0.0, FlowTable::default()) | (rounds != 0)
+        }
     }
 }
 
-fn answer_differs(s: &[u8], o: Counts, exits: Counts, seeds: Seeds) -> bool
-    requires in_bounds { 260 ≤ length s.now }
-    requires within_limit { WithinLimit o }
+fn answer_differs(s: &[u8; 260], o: Counts, exits: Counts, seeds: Seeds) -> bool
+    requires { WithinLimit o }
 {
     let x = balance_decision::decide(o, exits, seeds);
     let outcome = x.outcome;
@@ -129,50 +68,20 @@ fn answer_differs(s: &[u8], o: Counts, exits: Counts, seeds: Seeds) -> bool
         | decision_differs(s, outcome, x.rounds, balance::balanced(o, exits, seeds))
 }
 
-// A discharge out of range differs.
-fn case_differs(s: &[u8]) -> bool
-    requires { 260 ≤ length s.now }
-{
+// A body of another length differs, and so does a discharge out of range.
+fn case_differs(body: &[u8]) -> bool {
+    let Some(s) = body.as_array() else {
+        return true;
+    };
     let o = counts_at(s, 0);
-    if limits::ENTRY_LIMIT < o.left {
-        return true;
-    }
-    if limits::ENTRY_LIMIT < o.through {
-        return true;
-    }
-    if limits::ENTRY_LIMIT < o.right {
-        return true;
-    }
-    if limits::ENTRY_LIMIT < o.access {
+    let limit = limits::ENTRY_LIMIT;
+    if limit < o.left || limit < o.through || limit < o.right || limit < o.access {
         return true;
     }
     answer_differs(s, o, counts_at(s, 16), seeds_at(s, 32))
 }
 
-fn next_differs<R: Read>(input: &mut R) -> io::Result<bool> {
-    let mut buf = [0u8; 260];
-    let n = vectors::read_case(input, &mut buf)?;
-    let body = &buf[0..n];
-    if body.len() < 260 {
-        return Ok(true);
-    }
-    Ok(case_differs(body))
-}
-
 fn main(rt: HostRuntime) -> io::Result<()> {
-    let mut input = rt.stdin();
-    let mut output = rt.stdout();
-    let mut word = [0u8; 4];
-    let cases = vectors::read_word(&mut input, &mut word)?;
-    let mut differing: u32 = 0;
-    let mut i: u32 = 0;
-    while i < cases {
-        if next_differs(&mut input)? {
-            differing = vectors::differing(&mut output, i, differing)?;
-        }
-        i += 1;
-    }
-    let mut line = [0u8; 64];
-    vectors::finish(&mut output, &mut line, cases, differing)?;
-    Ok(())
+    let mut body = [0u8; 260];
+    vectors::run(&mut rt.stdin(), &mut rt.stdout(), &mut body, case_differs)
 }

@@ -2,19 +2,11 @@
 #![tactic(auto)]
 
 ghost use Rattle.std.specs.Prelude.{◌+◌, ◌≤◌, length};
-ghost use Rattle.point_vectors.specs.Room.{Lendable};
 
 use point_working::PointWorking;
 use points::{Point, Points};
 use std::io;
-use std::io::Read;
-
-// The longest output, the longest point profiles, and the longest work profile that a case lends.
-const OUTPUT_ROOM: usize = 1000;
-
-const PASSING_ROOM: usize = 2000;
-
-const WORK_ROOM: usize = 300;
+use vectors::{Profiles, ROOM};
 
 fn point_at(s: &[u8], at: usize) -> Point
     requires { at + 8 ≤ length s.now }
@@ -26,9 +18,7 @@ fn point_at(s: &[u8], at: usize) -> Point
 }
 
 // The points of a case: their count, then eight places, given or not.
-fn points_at(s: &[u8]) -> Points
-    requires { 68 ≤ length s.now }
-{
+fn points_at(s: &[u8; 68]) -> Points {
     let at = [
         point_at(s, 4),
         point_at(s, 12),
@@ -45,171 +35,71 @@ fn points_at(s: &[u8]) -> Points
     }
 }
 
-fn counts_differ(expected: &[u8], blocked: [u32; points::POINT_ROOM]) -> bool
-    requires { 36 ≤ length expected.now }
-{
-    vectors::numbers_differ(expected, 4, &blocked)
-}
-
-// The expected numbers of a case, after its points and the profiles' lengths: number, eight counts; then the four profiles.
-fn answer_differs(expected: &[u8], answer: PointWorking) -> bool
-    requires { 36 ≤ length expected.now }
-{
+// What must be answered: number, eight counts.
+fn answer_differs(expected: &[u8; 36], answer: PointWorking) -> bool {
     let working = answer.working;
     let outcome = working.outcome;
     let blocked = answer.blocked;
     (octets::word4_at(expected, 0) != balance_decision::refusal_of(outcome))
-        | counts_differ(expected, blocked)
+        | vectors::numbers_differ(expected, 4, &blocked)
 }
 
-fn profiles_differ(
-    expected: &[u8],
-    output: &[u32],
-    passing: &[u32],
-    first: &[u32],
-    second: &[u32],
-) -> bool {
-    let runs = vectors::after(expected, output.len());
-    let work = vectors::after(runs, passing.len());
-    vectors::profile_differs(expected, output)
-        | vectors::profile_differs(runs, passing)
-        | vectors::profile_differs(work, first)
-        | vectors::profile_differs(vectors::after(work, first.len()), second)
+fn work(record: &[u8], points: Points, lent: &mut Profiles) -> PointWorking {
+    point_working::work_points(
+        record,
+        points,
+        lent.output,
+        lent.passing,
+        lent.first,
+        lent.second,
+    )
 }
 
-// The answer, and the four profiles after it.
-fn result_differs(
-    expected: &[u8],
-    answer: PointWorking,
-    output: &[u32],
-    passing: &[u32],
-    first: &[u32],
-    second: &[u32],
-) -> bool {
-    if expected.len() < 36 {
-        return true;
-    }
-    answer_differs(expected, answer)
-        | profiles_differ(&expected[36..], output, passing, first, second)
-}
-
-// The four profiles as they are lent.
-fn lend(output: &mut [u32], passing: &mut [u32], first: &mut [u32], second: &mut [u32])
-    requires { Lendable (length output.old) (length passing.old) (length first.old) (length second.old) }
-{
-    vectors::fill_pattern(output, vectors::OUTPUT_FROM);
-    vectors::fill_pattern(passing, vectors::PASSING_FROM);
-    vectors::fill_pattern(first, vectors::FIRST_FROM);
-    vectors::fill_pattern(second, vectors::SECOND_FROM);
-}
-
-// One call, on profiles lent with patterns.
+// One call, on profiles of the lengths of a case; one longer than the longest differs. Their numbers after the call come last.
 fn call_differs(
     record: &[u8],
     points: Points,
-    expected: &[u8],
-    output: &mut [u32],
-    passing: &mut [u32],
-    first: &mut [u32],
-    second: &mut [u32],
-) -> bool
-    requires { Lendable (length output.old) (length passing.old) (length first.old) (length second.old) }
-{
-    lend(output, passing, first, second);
-    let answer = point_working::work_points(record, points, output, passing, first, second);
-    result_differs(
-        expected,
-        answer,
-        &output[..],
-        &passing[..],
-        &first[..],
-        &second[..],
-    )
+    lengths: &[u8; 16],
+    expected: &[u8; 36],
+    numbers: &[u8],
+) -> bool {
+    let o = octets::word4_at(lengths, 0) as usize;
+    let q = octets::word4_at(lengths, 4) as usize;
+    let f = octets::word4_at(lengths, 8) as usize;
+    let s = octets::word4_at(lengths, 12) as usize;
+    if ROOM < o || ROOM < q || ROOM < f || ROOM < s || numbers.len() != 4 * (o + q + f + s) {
+        return true;
+    }
+    let mut output = [0u32; ROOM];
+    let mut passing = [0u32; ROOM];
+    let mut first = [0u32; ROOM];
+    let mut second = [0u32; ROOM];
+    let mut lent = Profiles {
+        output: &mut output[..o],
+        passing: &mut passing[..q],
+        first: &mut first[..f],
+        second: &mut second[..s],
+    };
+    lent.fill();
+    let answer = work(record, points, &mut lent);
+    answer_differs(expected, answer) | lent.differ(numbers)
 }
 
-fn body_differs(
-    record: &[u8],
-    points: Points,
-    expected: &[u8],
-    o: usize,
-    q: usize,
-    f: usize,
-    s: usize,
-) -> bool
-    requires { Lendable o q f s }
-{
-    let mut output = [0u32; OUTPUT_ROOM];
-    let mut passing = [0u32; PASSING_ROOM];
-    let mut first = [0u32; WORK_ROOM];
-    let mut second = [0u32; WORK_ROOM];
-    call_differs(
-        record,
-        points,
-        expected,
-        &mut output[0..o],
-        &mut passing[0..q],
-        &mut first[0..f],
-        &mut second[0..s],
-    )
-}
-
-// A profile longer than the longest differs.
-fn lengths_differ(record: &[u8], rest: &[u8]) -> bool
-    requires { 84 ≤ length rest.now }
-{
-    let o = octets::word4_at(rest, 68) as usize;
-    let q = octets::word4_at(rest, 72) as usize;
-    let f = octets::word4_at(rest, 76) as usize;
-    let s = octets::word4_at(rest, 80) as usize;
-    if OUTPUT_ROOM < o {
+// After the record stand the points, the profiles' lengths, what must be answered, and the profiles.
+fn case_differs(record: &[u8], rest: &[u8]) -> bool {
+    let Some((points, rest)) = rest.split_first_chunk() else {
         return true;
-    }
-    if PASSING_ROOM < q {
+    };
+    let Some((lengths, rest)) = rest.split_first_chunk() else {
         return true;
-    }
-    if WORK_ROOM < f {
+    };
+    let Some((expected, numbers)) = rest.split_first_chunk() else {
         return true;
-    }
-    if WORK_ROOM < s {
-        return true;
-    }
-    if rest.len() != 120 + 4 * (o + q + f + s) {
-        return true;
-    }
-    body_differs(record, points_at(rest), &rest[84..], o, q, f, s)
-}
-
-fn case_differs(body: &[u8]) -> bool {
-    if body.len() < 2 {
-        return true;
-    }
-    let at = 2 + octets::word2_at(body, 0) as usize;
-    if body.len() < at + 84 {
-        return true;
-    }
-    lengths_differ(&body[2..at], &body[at..])
-}
-
-fn next_differs<R: Read>(input: &mut R) -> io::Result<bool> {
-    let mut body = [0u8; 16384];
-    let n = vectors::read_case(input, &mut body)?;
-    Ok(case_differs(&body[0..n]))
+    };
+    call_differs(record, points_at(points), lengths, expected, numbers)
 }
 
 fn main(rt: HostRuntime) -> io::Result<()> {
-    let mut input = rt.stdin();
-    let mut output = rt.stdout();
-    let mut word = [0u8; 4];
-    let cases = vectors::read_word(&mut input, &mut word)?;
-    let mut differing: u32 = 0;
-    let mut i: u32 = 0;
-    while i < cases {
-        if next_differs(&mut input)? {
-            differing = vectors::differing(&mut output, i, differing)?;
-        }
-        i += 1;
-    }
-    let mut line = [0u8; 64];
-    vectors::finish(&mut output, &mut line, cases, differing)?;
-    Ok(())
+    let mut body = [0u8; 16384];
+    vectors::run_records(&mut rt.stdin(), &mut rt.stdout(), &mut body, case_differs)
 }

@@ -3,8 +3,9 @@
 
 ghost use Rattle.std.specs.Prelude.{◌≡◌, ◌+◌, ◌≤◌, ◌<◌, length, take, IfOk, OnOk};
 ghost use Rattle.std.specs.Io.KnownBytes.{Appends, Consumes, IsAtEnd};
-ghost use Rattle.report.specs.Report.{input_limit, input_text};
+ghost use Rattle.report.specs.Report.{input_limit, input_text, text_room};
 ghost use Rattle.report.specs.Whole.{Text};
+ghost use Rattle.program.specs.Program.{Prints};
 
 use archive_format::Answer;
 use report::Form;
@@ -19,15 +20,7 @@ pub fn read_input<R: Read>(from: &mut R, input: &mut [u8]) -> io::Result<usize>
     ensures taken { IfOk result (λ n. Consumes (R.remaining from.old) (R.remaining from.new) (take n input.new)) }
     ensures ended { IfOk result (λ n. n < length input.new → IsAtEnd (R.remaining from.new)) }
 {
-    let mut n = 0;
-    while n < input.len() {
-        let more = from.read(&mut input[n..])?;
-        if more == 0 {
-            return Ok(n);
-        }
-        n += more;
-    }
-    Ok(n)
+    reading::read_full(from, input)
 }
 
 // Hands the whole text of an input to the one output call, which is asked; form and input are lent for that alone.
@@ -57,4 +50,34 @@ pub fn write_answer<W: Write>(
         }
         Answer::Refused(_) => Ok(0),
     }
+}
+
+// The text of an input to a lent buffer that has room for every text of its form.
+fn make_text(form: Form, input: &[u8], text: &mut [u8]) -> Answer
+    requires { text_room form ≤ length text.old }
+    ensures { Text form input.now text.new result }
+{
+    match form {
+        Form::Lines => report::report(input, text),
+        Form::Sheet => report::sheets(input, text),
+    }
+}
+
+// A program: reads an archive and prints its text, in buffers that its caller lends.
+pub fn run<R: Read, W: Write>(
+    from: &mut R,
+    to: &mut W,
+    form: Form,
+    input: &mut [u8],
+    text: &mut [u8],
+) -> io::Result<()>
+    requires input_room { length input.old ≡ input_limit + 1 }
+    requires room { text_room form ≤ length text.old }
+    ensures { OnOk result (Prints form (R.remaining from.old) (R.remaining from.new) (W.contents to.old) (W.contents to.new)) }
+{
+    let n = read_input(from, input)?;
+    let archive = &input[..n];
+    let answer = make_text(form, archive, text);
+    write_answer(to, form, archive, text, answer)?;
+    Ok(())
 }

@@ -1,11 +1,21 @@
 -- What the test programs compare.
-use Rattle.std.specs.Prelude.{ℕ, ◌+◌, ◌*◌, ◌%◌, Bool, false, ◌||◌, not, List, [], ◌∷◌, ◌++◌, eqb, ltb, Float, length, get_or}
+use Rattle.std.specs.Prelude.{◌≡◌, ℕ, ◌≤◌, ◌+◌, ◌*◌, ◌%◌, Bool, false, ◌||◌, not, List, [], ◌∷◌, ◌++◌, eqb, ltb, Float, length, take, drop, Option}
+use Rattle.std.specs.List.{flat_map}
+use Rattle.std.specs.Io.KnownBytes.{Appends}
 use Rattle.std.specs.Float.{binary64}
 use Rattle.std.specs.Float.Ieee.{to_bits}
-use Rattle.octets.specs.Octets.{word4, word8}
+use Rattle.octets.specs.Octets.{word2, word4, word8}
 use Rattle.lists.specs.Lists.{tab}
 use Rattle.text.specs.Text.{decimal, field}
 use Rattle.text.specs.Words.{bytes}
+use Rattle.vectors.specs.declared.Profiles.{Profiles}
+use Rattle.vectors.specs.declared.TheConstants.{ROOM, OUTPUT_FROM, PASSING_FROM, FIRST_FROM, SECOND_FROM}
+
+-- a body's record, as long as its first two bytes say, and what follows it
+pub record IsRecordAndRest (body segment rest : List ℕ) : Type 0 where
+  pub within : 2 + word2 body 0 ≤ length body
+  pub segment_is : segment ≡ take (word2 body 0) (drop 2 body)
+  pub rest_is : rest ≡ drop (2 + word2 body 0) body
 
 -- a lent profile before a call: each place its own number
 unfoldable pub pattern : ℕ → ℕ → List ℕ
@@ -25,12 +35,8 @@ unfoldable pub profile_differs : List ℕ → List ℕ → Bool
 profile_differs l run = ltb (length l) (4 * length run) || words_differ l 0 run
 
 -- some of the sixteen pair flows is not, row after row
-unfoldable pub rows_differ : List ℕ → ℕ → List (List ℕ) → Bool
-rows_differ l at rows =
-    words_differ l at (get_or rows 0 [])
-    || words_differ l (at + 16) (get_or rows 1 [])
-    || words_differ l (at + 32) (get_or rows 2 [])
-    || words_differ l (at + 48) (get_or rows 3 [])
+abbrev pub rows_differ : List ℕ → ℕ → List (List ℕ) → Bool
+rows_differ l at rows = words_differ l at (flat_map (λ row. row) rows)
 
 -- the eight bytes from a place on are not a float's bits
 unfoldable pub float_differs : List ℕ → ℕ → Float → Bool
@@ -42,3 +48,34 @@ closing_line cases differing =
     decimal cases
     ++ field (bytes " cases, ") differing
     ++ bytes " differs\n"
+
+-- a writer's known bytes grow by some
+abbrev pub Adds : Option (List ℕ) → Option (List ℕ) → Type 0
+Adds old new = (more : List ℕ) × Appends old new more
+
+-- what a run says: lines of single cases, then the closing line, in which no more differ than there are
+abbrev pub Told : Option (List ℕ) → Option (List ℕ) → Type 0
+Told old new = (lines : List ℕ) × (cases : ℕ) × (differing : ℕ) × (differing ≤ cases) × Appends old new (lines ++ closing_line cases differing)
+
+-- lent profiles that are no longer than a case lends them
+abbrev pub Lendable : Profiles → Type 0
+Lendable p = (length p.output.now ≤ ROOM) × (length p.passing.now ≤ ROOM) × (length p.first.now ≤ ROOM) × (length p.second.now ≤ ROOM)
+
+-- lent profiles that got their patterns
+pub record Patterned (p p' : Profiles) : Type 0 where
+  pub output : p'.output.now ≡ pattern OUTPUT_FROM (length p.output.now)
+  pub passing : p'.passing.now ≡ pattern PASSING_FROM (length p.passing.now)
+  pub first : p'.first.now ≡ pattern FIRST_FROM (length p.first.now)
+  pub second : p'.second.now ≡ pattern SECOND_FROM (length p.second.now)
+  pub output_name : p'.output.ghost_name ≡ p.output.ghost_name
+  pub passing_name : p'.passing.ghost_name ≡ p.passing.ghost_name
+  pub first_name : p'.first.ghost_name ≡ p.first.ghost_name
+  pub second_name : p'.second.ghost_name ≡ p.second.ghost_name
+
+-- some number of the profiles is not, one profile after another
+unfoldable pub profiles_differ : List ℕ → Profiles → Bool
+profiles_differ l p =
+    let passing = drop (4 * length p.output.now) l in
+    let first = drop (4 * length p.passing.now) passing in
+    let second = drop (4 * length p.first.now) first in
+    profile_differs l p.output.now || profile_differs passing p.passing.now || profile_differs first p.first.now || profile_differs second p.second.now

@@ -1,17 +1,16 @@
 // Support of the test programs: cases of a vector file from standard input, and what is said of them. docs/VECTORS.md has the format.
 #![tactic(auto)]
 
-ghost use Rattle.std.specs.Prelude.{◌≡◌, ◌+◌, ◌-◌, ◌*◌, ◌≤◌, ◌<◌, ◌^◌, length, take, drop, IfOk};
+ghost use Rattle.std.specs.Prelude.{◌≡◌, ◌+◌, ◌-◌, ◌*◌, ◌≤◌, ◌<◌, ◌^◌, length, take, drop, IfOk, OnOk, MatchOption};
 ghost use Rattle.std.specs.Io.KnownBytes.{Appends};
-ghost use Rattle.std.specs.Float.{binary64};
-ghost use Rattle.std.specs.Float.Ieee.{to_bits};
-ghost use Rattle.octets.specs.Octets.{word4};
+ghost use Rattle.octets.specs.Octets.{word2, word4};
 ghost use Rattle.buffer.specs.Buffer.{WroteAt, next_place};
-ghost use Rattle.vectors.specs.Vectors.{byte_pattern, closing_line, float_differs, pattern, profile_differs, rows_differ, words_differ};
+ghost use Rattle.vectors.specs.Vectors.{Adds, IsRecordAndRest, Lendable, Patterned, Told, byte_pattern, closing_line, float_differs, pattern, profile_differs, profiles_differ, rows_differ, words_differ};
 
 use buffer::Writer;
 use std::io;
 use std::io::{Read, Write};
+use std::num::f64_to_bits_with_nan;
 
 // Each lent profile holds the numbers from its own on.
 pub const OUTPUT_FROM: u32 = 3000000000;
@@ -22,27 +21,18 @@ pub const SECOND_FROM: u32 = 3200000000;
 
 pub const PASSING_FROM: u32 = 3300000000;
 
-// Reads until a buffer is full or the input ends, and answers how many bytes were read.
-fn read_full<R: Read>(input: &mut R, buffer: &mut [u8]) -> io::Result<usize>
-    ensures { IfOk result (λ n. n ≤ length buffer.new) }
-{
-    let mut n = 0;
-    while n < buffer.len() {
-        let more = input.read(&mut buffer[n..])?;
-        if more == 0 {
-            return Ok(n);
-        }
-        n += more;
-    }
-    Ok(n)
-}
+// The longest profile that a case lends.
+pub const ROOM: usize = 2000;
+
+// A buffer that holds every closing line.
+const LINE_ROOM: usize = 64;
 
 // The next four bytes of the input, to the front of a lent buffer, as a number.
 pub fn read_word<R: Read>(input: &mut R, word: &mut [u8]) -> io::Result<u32>
     requires { 4 ≤ length word.old }
     ensures { IfOk result (λ n. n ≡ word4 word.new 0) }
 {
-    read_full(input, &mut word[0..4])?;
+    reading::read_full(input, &mut word[0..4])?;
     Ok(octets::word4_at(&word[..], 0))
 }
 
@@ -55,7 +45,7 @@ pub fn read_case<R: Read>(input: &mut R, body: &mut [u8]) -> io::Result<usize>
     if body.len() < n {
         return Ok(0);
     }
-    let got = read_full(input, &mut body[0..n])?;
+    let got = reading::read_full(input, &mut body[0..n])?;
     if got < n {
         return Ok(0);
     }
@@ -65,7 +55,8 @@ pub fn read_case<R: Read>(input: &mut R, body: &mut [u8]) -> io::Result<usize>
 // Says that a case differs, and returns one more than the number that did before.
 pub fn differing<W: Write>(output: &mut W, i: u32, before: u32) -> io::Result<u32>
     requires { before < 2 ^ 32 - 1 }
-    ensures { IfOk result (λ n. n ≡ before + 1) }
+    ensures counted { IfOk result (λ n. n ≡ before + 1) }
+    ensures said { OnOk result (Adds (W.contents output.old) (W.contents output.new)) }
 {
     writeln!(output, "case {i} differs")?;
     Ok(before + 1)
@@ -99,15 +90,63 @@ pub fn finish<W: Write>(
     Ok(n)
 }
 
+// Runs the cases of a vector file, each read into a lent buffer: says which differ, and closes with how many did.
+pub fn run<R: Read, W: Write, F: Fn(&[u8]) -> bool>(
+    input: &mut R,
+    output: &mut W,
+    body: &mut [u8],
+    differs: F,
+) -> io::Result<()>
+    requires { F.IsAlwaysCallable differs }
+    ensures { OnOk result (Told (W.contents output.old) (W.contents output.new)) }
+{
+    let mut word = [0u8; 4];
+    let cases = read_word(input, &mut word)?;
+    let mut count = 0;
+    for i in 0..cases {
+        let n = read_case(input, body)?;
+        if differs(&body[..n]) {
+            count = differing(output, i, count)?;
+        }
+    }
+    let mut line = [0u8; LINE_ROOM];
+    finish(output, &mut line, cases, count)?;
+    Ok(())
+}
+
+// The record of a body, behind its length, and what follows it; none where the body ends before.
+pub fn record_of(body: &[u8]) -> Option<(&[u8], &[u8])>
+    ensures { MatchOption result (length body.now < 2 + word2 body.now 0) (λ p. IsRecordAndRest body.now p.0.now p.1.now) }
+{
+    if body.len() < 2 {
+        return None;
+    }
+    body[2..].split_at_checked(octets::word2_at(body, 0) as usize)
+}
+
+// The same for bodies that begin with a record behind its length; one that ends within it differs.
+pub fn run_records<R: Read, W: Write, F: Fn(&[u8], &[u8]) -> bool>(
+    input: &mut R,
+    output: &mut W,
+    body: &mut [u8],
+    differs: F,
+) -> io::Result<()>
+    requires { F.IsAlwaysCallable differs }
+    ensures { OnOk result (Told (W.contents output.old) (W.contents output.new)) }
+{
+    run(input, output, body, |body| match record_of(body) {
+        Some((record, rest)) => differs(record, rest),
+        None => true,
+    })
+}
+
 // A profile as it is lent: place i holds first + i.
 pub fn fill_pattern(run: &mut [u32], first: u32)
     requires { first + length run.old ≤ 2 ^ 32 }
     ensures { run.new ≡ pattern first (length run.old) }
 {
-    let mut i = 0;
-    while i < run.len() {
-        run[i] = first + (i as u32);
-        i += 1;
+    for (i, x) in run.iter_mut().enumerate() {
+        *x = first + i as u32;
     }
 }
 
@@ -115,10 +154,8 @@ pub fn fill_pattern(run: &mut [u32], first: u32)
 pub fn fill_bytes(buffer: &mut [u8])
     ensures { buffer.new ≡ byte_pattern (length buffer.old) }
 {
-    let mut i = 0;
-    while i < buffer.len() {
-        buffer[i] = (i % 251) as u8;
-        i += 1;
+    for (i, x) in buffer.iter_mut().enumerate() {
+        *x = (i % 251) as u8;
     }
 }
 
@@ -127,40 +164,60 @@ pub fn numbers_differ(expected: &[u8], at: usize, run: &[u32]) -> bool
     requires { at + 4 * length run.now ≤ length expected.now }
     ensures { result ≡ words_differ expected.now at run.now }
 {
-    let mut differ = false;
-    let mut i = 0;
-    while i < run.len() {
-        differ = differ | (octets::word4_at(expected, at + 4 * i) != run[i]);
-        i += 1;
-    }
-    differ
+    run.iter()
+        .enumerate()
+        .any(|(i, x)| octets::word4_at(expected, at + 4 * i) != *x)
 }
 
 // Whether a profile differs from the numbers in front; too few differ.
+#[tactic(auto, unfolding(crate::specs::Vectors::profile_differs))]
 pub fn profile_differs(expected: &[u8], run: &[u32]) -> bool
     ensures { result ≡ profile_differs expected.now run.now }
 {
-    if expected.len() / 4 < run.len() {
-        return true;
-    }
-    numbers_differ(expected, 0, run)
+    expected.len() / 4 < run.len() || numbers_differ(expected, 0, run)
 }
 
 // What stands after so many numbers.
 pub fn after<'a>(expected: &'a [u8], n: usize) -> &'a [u8]
     ensures { result.now ≡ drop (4 * n) expected.now }
 {
-    if expected.len() / 4 < n {
-        return &expected[0..0];
-    }
-    &expected[4 * n..]
+    expected.get(n.saturating_mul(4)..).unwrap_or(&[])
 }
 
-fn row_differs(expected: &[u8], at: usize, row: [u32; 4]) -> bool
-    requires { at + 16 ≤ length expected.now }
-    ensures { result ≡ words_differ expected.now at row }
-{
-    numbers_differ(expected, at, &row)
+// The profiles that a call is lent: output, point profiles (none where it has no points), first and second work profile.
+#[derive(Drop)]
+pub struct Profiles<'a> {
+    pub output: &'a mut [u32],
+    pub passing: &'a mut [u32],
+    pub first: &'a mut [u32],
+    pub second: &'a mut [u32],
+}
+
+impl<'a> Profiles<'a> {
+    // Each gets its pattern.
+    pub fn fill(&mut self)
+        requires { Lendable self.old }
+        ensures { Patterned self.old self.new }
+    {
+        fill_pattern(self.output, OUTPUT_FROM);
+        fill_pattern(self.passing, PASSING_FROM);
+        fill_pattern(self.first, FIRST_FROM);
+        fill_pattern(self.second, SECOND_FROM);
+    }
+
+    // Whether a number of theirs differs from those expected, one profile after another.
+    #[tactic(auto, unfolding(crate::specs::Vectors::profiles_differ))]
+    pub fn differ(&self, expected: &[u8]) -> bool
+        ensures { result ≡ profiles_differ expected.now self.now }
+    {
+        let passing = after(expected, self.output.len());
+        let first = after(passing, self.passing.len());
+        let second = after(first, self.first.len());
+        profile_differs(expected, self.output)
+            | profile_differs(passing, self.passing)
+            | profile_differs(first, self.first)
+            | profile_differs(second, self.second)
+    }
 }
 
 // Whether some of the sixteen pair flows differs, in rows from a place on.
@@ -168,26 +225,14 @@ pub fn rows_differ(expected: &[u8], at: usize, rows: [[u32; 4]; 4]) -> bool
     requires { at + 64 ≤ length expected.now }
     ensures { result ≡ rows_differ expected.now at rows }
 {
-    row_differs(expected, at, rows[0])
-        | row_differs(expected, at + 16, rows[1])
-        | row_differs(expected, at + 32, rows[2])
-        | row_differs(expected, at + 48, rows[3])
+    numbers_differ(expected, at, rows.as_flattened())
 }
 
-// A float's bits, with one pattern for every NaN.
-fn bits(x: f64) -> u64
-    ensures { result ≡ to_bits binary64 x }
-{
-    if x != x {
-        return 0x7ff8_0000_0000_0000;
-    }
-    f64::to_bits(x)
-}
-
-// Whether a float differs from the bits expected.
+// Whether a float differs from the bits expected; every NaN has one pattern.
+#[tactic(auto, unfolding(crate::specs::Vectors::float_differs))]
 pub fn float_differs(expected: &[u8], at: usize, x: f64) -> bool
     requires { at + 8 ≤ length expected.now }
     ensures { result ≡ float_differs expected.now at x }
 {
-    octets::word8_at(expected, at) != bits(x)
+    octets::word8_at(expected, at) != f64_to_bits_with_nan(x)
 }

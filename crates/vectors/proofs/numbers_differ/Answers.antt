@@ -1,12 +1,17 @@
-use Rattle.std.proofs.Common.{arith}
-use Rattle.vectors.proofs.Laws.{comparing_start, comparing_turn, comparing_done}
+-- The numbers with their places are those of the run, each compared.
+use Rattle.std.proofs.Common.{rules, tests, ◌≡◌, ◌+◌, ◌*◌, arith, eqb, not, ◌∙◌}
+use Rattle.std.proofs.lemmas.Iterator.{YieldsList-from_slice}
+use Rattle.std.proofs.lemmas.Iterator.Consumers.{YieldsList-from_enumerate}
+use Rattle.std.proofs.lemmas.Iterator.Search.{any_from_yields_List}
+use Rattle.octets.specs.Octets.{word4}
+use Rattle.vectors.proofs.Laws.{compared}
 use Rattle.vectors.proofs.numbers_differ.Goals as goal
 
-pub loop-i-init : goal.loop-i-init
-loop-i-init c = comparing_start _ _ _
-
-pub loop-i-preserved : goal.loop-i-preserved
-loop-i-preserved c = comparing_turn c.loop-i.invariant (omega arith) _ c.word4_at.ensures
-
 pub returns : goal.returns
-returns c = comparing_done c.loop-i.invariant c.loop-i-test.false
+returns c =
+    let l = c.args.expected.now in
+    let at = c.args.at in
+    let start : at + 4 * 0 ≡ at = omega arith in
+    any_from_yields_List (λ p. not (eqb (word4 l (at + 4 * p.0)) p.1)) _ _ _ c.any.ensures.ran
+    (YieldsList-from_enumerate (YieldsList-from_slice c.args.run.now cc) (cc)) (λ x b q k. search (rules, tests))
+    ∙ compared l at 0 c.args.run.now ∙ rw start
