@@ -26,7 +26,14 @@ pub holds : (a : Archive) → Held a.edition a.bytes.now a.count a.trailer a.las
 holds a =
     let fs : List Filed = filed_from a.edition.size a.count a.bytes.now 0 in
     let m : Reads a.edition a.bytes.now fs = reads a.edition a.bytes.now fs a.read in
-    record { fs = fs; is = a.read; count_is = sym (filed_length a.edition.size a.count a.bytes.now 0) ∙ sym m.count; trailer_is = a.ends; last_is = a.lasts; read = m }
+    record {
+      fs = fs;
+      is = a.read;
+      count_is = sym (filed_length a.edition.size a.count a.bytes.now 0) ∙ sym m.count;
+      trailer_is = a.ends;
+      last_is = a.lasts;
+      read = m;
+    }
 
 pub held : {e : Edition} {l : List ℕ} (a : Archive) → Opens e l (Ok a) → Held e l a.count a.trailer a.last
 held a o = rw o.0 at (rw o.1 at (holds a))

@@ -7,17 +7,19 @@
 
 ghost use Rattle.std.specs.Prelude.{◌≡◌, length};
 ghost use Rattle.propagation.specs.Propagation.{lent};
-ghost use Rattle.archive_format.specs.Archive.{add_of, answer_of, count_of, find_of, place_of, first_edition, title_part_of};
+ghost use Rattle.archive_format.specs.Archive.{add_of, count_of, find_of, place_of, first_edition, title_part_of};
 ghost use Rattle.report.specs.Report.{report_of, sheets_of};
 ghost use Rattle.exports.specs.Exports.{SegmentWorks, work_answer, SegmentPointWorks, point_work_answer, SegmentDischarges, SegmentSheets};
 ghost use Rattle.exports.specs.Exports.{volumes_answer, value_answer, ArchiveWrites, title_answer};
 
-use archive_format::{Answer, TitlePart};
-use discharge::Discharged;
+use archive_format::TitlePart;
+use balance_decision::Unworked;
 use exit_figures::ExitFigures;
+use movements::Signalised;
 use pair_flows::PairFlows;
 use point_working::PointWorking;
 use points::Points;
+use refusal::Refusal;
 use working_outcome::Working;
 
 // A working's answer: 0 and 15 tell the last sum.
@@ -71,73 +73,121 @@ pub struct TitleAnswer {
     pub length: usize,
 }
 
-fn work_answer(w: Working) -> WorkAnswer
-    ensures { result ≡ work_answer w }
-{
-    let outcome = w.outcome;
-    let pairs = w.pairs;
-    let left = w.left;
-    let through = w.through;
-    let right = w.right;
-    WorkAnswer {
-        number: balance_decision::refusal_of(outcome),
-        rounds: w.rounds,
-        sum: balance_decision::last_sum_of(outcome),
-        arrival: w.arrival,
-        blocked: w.blocked,
-        pairs,
-        left,
-        through,
-        right,
-        access: w.access,
+impl From<Result<Working, Unworked>> for WorkAnswer {
+    ghost from_gives = { λ answer told. told ≡ work_answer answer };
+
+    fn from(answer: Result<Working, Unworked>) -> WorkAnswer {
+        let none = ExitFigures {
+            total: 0,
+            green: 0,
+            permille: 0,
+        };
+        match answer {
+            Ok(w) => WorkAnswer {
+                number: 0,
+                rounds: w.rounds,
+                sum: w.sum,
+                arrival: w.arrival,
+                blocked: w.blocked,
+                pairs: w.pairs,
+                left: w.left,
+                through: w.through,
+                right: w.right,
+                access: w.access,
+            },
+            Err(u) => WorkAnswer {
+                number: u.number(),
+                rounds: 0,
+                sum: u.last_sum(),
+                arrival: 0,
+                blocked: 0,
+                pairs: PairFlows { rows: [[0; 4]; 4] },
+                left: none,
+                through: none,
+                right: none,
+                access: 0,
+            },
+        }
     }
 }
 
-fn point_work_answer(w: PointWorking) -> PointWorkAnswer
-    ensures { result ≡ point_work_answer w }
-{
-    let blocked = w.blocked;
-    PointWorkAnswer {
-        work: work_answer(w.working),
-        blocked,
+impl From<Result<PointWorking, Unworked>> for PointWorkAnswer {
+    ghost from_gives = { λ answer told. told ≡ point_work_answer answer };
+
+    fn from(answer: Result<PointWorking, Unworked>) -> PointWorkAnswer {
+        match answer {
+            Ok(w) => {
+                let blocked = w.blocked;
+                PointWorkAnswer {
+                    work: Ok(w.working).into(),
+                    blocked,
+                }
+            }
+            Err(u) => {
+                let blocked = [0; points::POINT_ROOM];
+                PointWorkAnswer {
+                    work: Err(u).into(),
+                    blocked,
+                }
+            }
+        }
     }
 }
 
-fn volumes_answer(d: Discharged) -> VolumesAnswer
-    ensures { result ≡ volumes_answer d }
-{
-    match d {
-        Discharged::Refused(n) => VolumesAnswer {
-            number: n,
-            left: 0,
-            through: 0,
-            right: 0,
-        },
-        Discharged::Volumes {
-            left,
-            through,
-            right,
-        } => VolumesAnswer {
-            number: 0,
-            left: left,
-            through: through,
-            right: right,
-        },
+impl From<Result<Signalised<u32>, Refusal>> for VolumesAnswer {
+    ghost from_gives = { λ answer told. told ≡ volumes_answer answer };
+
+    fn from(answer: Result<Signalised<u32>, Refusal>) -> VolumesAnswer {
+        match answer {
+            Ok(o) => VolumesAnswer {
+                number: 0,
+                left: o.left,
+                through: o.through,
+                right: o.right,
+            },
+            Err(refusal) => VolumesAnswer {
+                number: refusal.number(),
+                left: 0,
+                through: 0,
+                right: 0,
+            },
+        }
     }
 }
 
-fn value_answer(a: Answer) -> ValueAnswer
-    ensures { result ≡ value_answer a }
-{
-    match a {
-        Answer::Refused(n) => ValueAnswer {
-            number: n,
-            value: 0,
-        },
-        Answer::Value(n) => ValueAnswer {
-            number: 0,
-            value: n,
-        },
+impl From<Result<usize, Refusal>> for ValueAnswer {
+    ghost from_gives = { λ answer told. told ≡ value_answer answer };
+
+    fn from(answer: Result<usize, Refusal>) -> ValueAnswer {
+        match answer {
+            Ok(n) => ValueAnswer {
+                number: 0,
+                value: n,
+            },
+            Err(refusal) => ValueAnswer {
+                number: refusal.number(),
+                value: 0,
+            },
+        }
+    }
+}
+
+impl From<Result<TitlePart, Refusal>> for TitleAnswer {
+    ghost from_gives = { λ answer told. told ≡ title_answer answer };
+
+    fn from(answer: Result<TitlePart, Refusal>) -> TitleAnswer {
+        match answer {
+            Ok(part) => TitleAnswer {
+                number: 0,
+                place: part.place,
+                length: part.length,
+            },
+            Err(refusal) => TitleAnswer {
+                number: refusal.number(),
+                place: 0,
+                length: 0,
+            },
+        }
     }
 }
 
@@ -152,7 +202,7 @@ pub extern "C" fn segment_work(
     ensures { SegmentWorks bytes.now (lent output.old first.old second.old)
         result (lent output.new first.new second.new) }
 {
-    work_answer(working::work(bytes, output, first, second))
+    working::work(bytes, output, first, second).into()
 }
 
 // `point_working::work_points`; the points pass by value.
@@ -168,7 +218,7 @@ pub extern "C" fn segment_work_points(
     ensures { SegmentPointWorks bytes.now points (lent output.old first.old second.old) passing.old
         result (lent output.new first.new second.new) passing.new }
 {
-    point_work_answer(point_working::work_points(bytes, points, output, passing, first, second))
+    point_working::work_points(bytes, points, output, passing, first, second).into()
 }
 
 // `sheet::sheet`: 21 where the page buffer is under 4380 bytes.
@@ -183,7 +233,7 @@ pub extern "C" fn segment_sheet(
     ensures { SegmentSheets bytes.now (lent output.old first.old second.old) page.old
         result (lent output.new first.new second.new) page.new }
 {
-    work_answer(sheet::sheet(bytes, page, output, first, second))
+    sheet::sheet(bytes, page, output, first, second).into()
 }
 
 // `discharge::discharge`.
@@ -191,31 +241,31 @@ pub extern "C" fn segment_sheet(
 pub extern "C" fn segment_discharge(bytes: &[u8], profile: &mut [u32]) -> VolumesAnswer
     ensures { SegmentDischarges bytes.now profile.old result profile.new }
 {
-    volumes_answer(discharge::discharge(bytes, profile))
+    discharge::discharge(bytes, profile).into()
 }
 
 // `archive_read::count`.
 #[unsafe(no_mangle)]
 pub extern "C" fn archive_count(archive: &[u8]) -> ValueAnswer
-    ensures { result ≡ value_answer (answer_of (count_of first_edition archive.now)) }
+    ensures { result ≡ value_answer (count_of first_edition archive.now) }
 {
-    value_answer(archive_read::count(archive))
+    archive_read::count(archive).into()
 }
 
 // `archive_read::place`, the index from 0.
 #[unsafe(no_mangle)]
 pub extern "C" fn archive_place(archive: &[u8], i: usize) -> ValueAnswer
-    ensures { result ≡ value_answer (answer_of (place_of first_edition archive.now i)) }
+    ensures { result ≡ value_answer (place_of first_edition archive.now i) }
 {
-    value_answer(archive_read::place(archive, i))
+    archive_read::place(archive, i).into()
 }
 
 // `archive_read::find`.
 #[unsafe(no_mangle)]
 pub extern "C" fn archive_find(archive: &[u8], number: u32) -> ValueAnswer
-    ensures { result ≡ value_answer (answer_of (find_of first_edition archive.now number)) }
+    ensures { result ≡ value_answer (find_of first_edition archive.now number) }
 {
-    value_answer(archive_read::find(archive, number))
+    archive_read::find(archive, number).into()
 }
 
 // `archive_read::title_part`; no reference is handed to C.
@@ -223,19 +273,7 @@ pub extern "C" fn archive_find(archive: &[u8], number: u32) -> ValueAnswer
 pub extern "C" fn archive_title(archive: &[u8], number: u32) -> TitleAnswer
     ensures { result ≡ title_answer (title_part_of first_edition archive.now number) }
 {
-    let part = archive_read::title_part(archive, number);
-    match part {
-        TitlePart::Refused(n) => TitleAnswer {
-            number: n,
-            place: 0,
-            length: 0,
-        },
-        TitlePart::Part { place, length } => TitleAnswer {
-            number: 0,
-            place: place,
-            length: length,
-        },
-    }
+    archive_read::title_part(archive, number).into()
 }
 
 // `archive_add::add`.
@@ -249,7 +287,7 @@ pub extern "C" fn archive_add(
     ensures { ArchiveWrites (add_of first_edition archive.now bytes.now title.now (length buffer.old))
         buffer.old result buffer.new }
 {
-    value_answer(archive_add::add(archive, bytes, title, buffer))
+    archive_add::add(archive, bytes, title, buffer).into()
 }
 
 // `report::report`: 17 where the buffer is under 262144 bytes.
@@ -257,7 +295,7 @@ pub extern "C" fn archive_add(
 pub extern "C" fn archive_report(archive: &[u8], text: &mut [u8]) -> ValueAnswer
     ensures { ArchiveWrites (report_of archive.now (length text.old)) text.old result text.new }
 {
-    value_answer(report::report(archive, text))
+    report::report(archive, text).into()
 }
 
 // `report::sheets`: 17 where the buffer is under 2242560 bytes.
@@ -265,5 +303,5 @@ pub extern "C" fn archive_report(archive: &[u8], text: &mut [u8]) -> ValueAnswer
 pub extern "C" fn archive_sheets(archive: &[u8], text: &mut [u8]) -> ValueAnswer
     ensures { ArchiveWrites (sheets_of archive.now (length text.old)) text.old result text.new }
 {
-    value_answer(report::sheets(archive, text))
+    report::sheets(archive, text).into()
 }

@@ -8,20 +8,23 @@ use Rattle.archive_add.proofs.add_in.Goals as goal
 pub returns-in_err-need : goal.returns-in_err-need
 unfolding need
 returns-in_err-need c =
-    refused_as c.in_err-need.field-0.0 (search rules)
-    (search (rules, ladder, add_tests c.args.segment.now c.args.title.now (held c.in_ok-archive.archive c.in_ok-archive.ensures) (λ i. omega (arith, c.type_inv.s i)) (length c.args.out.now)))
+    let h = held c.in_ok-archive.archive c.in_ok-archive.ensures in
+    let tests = add_tests c.args.segment.now c.args.title.now h (λ i. omega (arith, c.type_inv.s i)) (length c.args.out.now) in
+    refused_as c.in_err-need.field-0.0 (search rules) (search (rules, ladder, tests))
 
 pub returns-in_err-need-2 : goal.returns-in_err-need-2
 unfolding need
 returns-in_err-need-2 c =
-    refused_as c.in_err-need-2.field-0.0 (search rules)
-    (search (rules, ladder, add_tests c.args.segment.now c.args.title.now (held c.in_ok-archive.archive c.in_ok-archive.ensures) (λ i. omega (arith, c.type_inv.s i)) (length c.args.out.now)))
+    let h = held c.in_ok-archive.archive c.in_ok-archive.ensures in
+    let tests = add_tests c.args.segment.now c.args.title.now h (λ i. omega (arith, c.type_inv.s i)) (length c.args.out.now) in
+    refused_as c.in_err-need-2.field-0.0 (search rules) (search (rules, ladder, tests))
 
 pub returns-in_err-need-3 : goal.returns-in_err-need-3
 unfolding need
 returns-in_err-need-3 c =
-    refused_as c.in_err-need-3.field-0.0 (search rules)
-    (search (rules, ladder, add_tests c.args.segment.now c.args.title.now (held c.in_ok-archive.archive c.in_ok-archive.ensures) (λ i. omega (arith, c.type_inv.s i)) (length c.args.out.now)))
+    let h = held c.in_ok-archive.archive c.in_ok-archive.ensures in
+    let tests = add_tests c.args.segment.now c.args.title.now h (λ i. omega (arith, c.type_inv.s i)) (length c.args.out.now) in
+    refused_as c.in_err-need-3.field-0.0 (search rules) (search (rules, ladder, tests))
 
 -- the new length is no number that wraps
 pub overflow_add-length : goal.overflow_add-length
@@ -45,18 +48,19 @@ overflow_add-length-5 c = omega (arith, held_small _ _ (held c.in_ok-archive.arc
 pub returns-in_err-need-4 : goal.returns-in_err-need-4
 unfolding need
 returns-in_err-need-4 c =
+    let h = held c.in_ok-archive.archive c.in_ok-archive.ensures in
+    let tests = add_tests c.args.segment.now c.args.title.now h (λ i. omega (arith, c.type_inv.s i)) (length c.args.out.now) in
     let record-holds = holds _ _ _ _ c.need.ensures c.in_ok-need.was in
     let title-holds = sym c.title_fits.ensures ∙ holds _ _ _ _ c.need-2.ensures c.in_ok-need-2.was in
     let order-holds = rw c.word4_at-number.ensures at (holds _ _ _ _ c.need-3.ensures c.in_ok-need-3.was) in
-    refused_as c.in_err-need-4.field-0.0 (search rules)
-    (add_tests c.args.segment.now c.args.title.now (held c.in_ok-archive.archive c.in_ok-archive.ensures) (λ i. omega (arith, c.type_inv.s i)) (length c.args.out.now)
-    ∙ rw (record-holds, title-holds, order-holds) (search (rules, ladder)))
+    refused_as c.in_err-need-4.field-0.0 (search rules) (tests ∙ rw (record-holds, title-holds, order-holds) (search (rules, ladder)))
 
 pub returns-in_err-need-5 : goal.returns-in_err-need-5
 unfolding need
 returns-in_err-need-5 c =
-    refused_as c.in_err-need-5.field-0.0 (search rules)
-    (search (rules, ladder, add_tests c.args.segment.now c.args.title.now (held c.in_ok-archive.archive c.in_ok-archive.ensures) (λ i. omega (arith, c.type_inv.s i)) (length c.args.out.now)))
+    let h = held c.in_ok-archive.archive c.in_ok-archive.ensures in
+    let tests = add_tests c.args.segment.now c.args.title.now h (λ i. omega (arith, c.type_inv.s i)) (length c.args.out.now) in
+    refused_as c.in_err-need-5.field-0.0 (search rules) (search (rules, ladder, tests))
 
 pub grow-n-requires : goal.grow-n-requires
 grow-n-requires c =
@@ -76,8 +80,8 @@ grow-n-requires c =
 pub returns : goal.returns
 unfolding need
 returns c =
+    let h = held c.in_ok-archive.archive c.in_ok-archive.ensures in
+    let tests = add_tests c.args.segment.now c.args.title.now h (λ i. omega (arith, c.type_inv.s i)) (length c.args.out.now) in
     let sized = eqb-true _ _ (holds _ _ _ _ c.need.ensures c.in_ok-need.was) in
     let room = leb-true _ _ (holds _ _ _ _ c.need-4.ensures c.in_ok-need-4.was) in
-    add_done _ _ (held c.in_ok-archive.archive c.in_ok-archive.ensures) (λ i. omega (arith, c.type_inv.s i)) c.args.out.now sized room
-    (search (rules, ladder, add_tests c.args.segment.now c.args.title.now (held c.in_ok-archive.archive c.in_ok-archive.ensures) (λ i. omega (arith, c.type_inv.s i)) (length c.args.out.now)))
-    c.grow-n.ensures
+    add_done _ _ h (λ i. omega (arith, c.type_inv.s i)) c.args.out.now sized room (search (rules, ladder, tests)) c.grow-n.ensures

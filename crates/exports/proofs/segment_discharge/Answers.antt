@@ -3,4 +3,4 @@ use Rattle.exports.proofs.Laws.{segment_discharges}
 use Rattle.exports.proofs.segment_discharge.Goals as goal
 
 pub returns : goal.returns
-returns c = segment_discharges _ _ _ _ _ c.discharge.ensures c.volumes_answer.ensures
+returns c = segment_discharges _ _ _ _ _ c.discharge.ensures c.into.ensures
