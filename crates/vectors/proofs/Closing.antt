@@ -3,7 +3,7 @@ use Rattle.std.specs.Prelude.{ℕ, ◌+◌, ◌^◌, ◌≤◌, ◌<◌, ◌≡�
 use Rattle.std.proofs.Common.{arith, refl, drop, length-append, take_at}
 use Rattle.std.specs.Io.KnownBytes.{Appends}
 use Rattle.std.proofs.KnownBytes.{Appends-trans}
-use Rattle.buffer.specs.Buffer.{Wrote}
+use Rattle.buffer.specs.Buffer.{WroteAt}
 use Rattle.buffer.proofs.Pieces.{wrote_fits}
 use Rattle.text.specs.Text.{field, decimal}
 use Rattle.text.specs.Words.{bytes}
@@ -23,7 +23,7 @@ closing_fits cases differing h k =
 
 -- so it is written whole
 whole : {b : List ℕ} {cases differing : ℕ} {line : List ℕ} {n : ℕ} → length b ≡ 64 → cases < 2 ^ 32 → differing ≤ cases →
-    Wrote b 0 (closing_line cases differing) line n → take n line ≡ closing_line cases differing
+    WroteAt b 0 (closing_line cases differing) line n → take n line ≡ closing_line cases differing
 whole {b} {cases} {differing} {line} {n} e h k w =
     let closing = closing_line cases differing in
     let z : 0 + length closing ≡ length closing = omega arith in
@@ -31,7 +31,7 @@ whole {b} {cases} {differing} {line} {n} e h k w =
     rw (fits.0, fits.1, z) (take_at closing (drop (length closing) b) _ refl)
 
 pub told : (x y z : Option (List ℕ)) {b : List ℕ} {cases differing : ℕ} {line : List ℕ} {n : ℕ} → Adds x y → length b ≡ 64 → cases < 2 ^ 32 → differing ≤ cases →
-    Wrote b 0 (closing_line cases differing) line n → Appends y z (take n line) → Told x z
+    WroteAt b 0 (closing_line cases differing) line n → Appends y z (take n line) → Told x z
 told x y z {b} {cases} {differing} more e h k w last =
     let written : Appends y z (closing_line cases differing) = rw (whole e h k w) at last in
     (more.0, cases, differing, k, Appends-trans x y z more.0 (closing_line cases differing) more.1 written)
