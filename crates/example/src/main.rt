@@ -1,12 +1,10 @@
 // The README's examples, run: a record is tested, filed with a title, found again, printed and worked.
 #![tactic(auto)]
 
-use archive_format::{Answer, TitlePart};
-use balance_decision::Outcome;
-use discharge::Discharged;
+use archive_format::TitlePart;
 use points::{Point, Points};
+use refusal::Refusal;
 use std::io;
-use validation::Checked;
 
 // The paper's record 1: cycle 60, running time 40000 ms, headway 4100 ms, 360 veh/h in by access and out through.
 fn record() -> [u8; 68] {
@@ -42,20 +40,24 @@ fn say(rt: &impl Print, label: &str, n: u64) -> io::Result<()> {
     println!(rt; "{label} {n}")
 }
 
-fn tell(rt: &impl Print, label: &str, answer: Answer) -> io::Result<()> {
+fn refused(rt: &impl Print, number: u32) -> io::Result<()> {
+    say(rt, "refused", u64::from(number))
+}
+
+fn tell(rt: &impl Print, label: &str, answer: Result<usize, Refusal>) -> io::Result<()> {
     match answer {
-        Answer::Value(n) => say(rt, label, n as u64),
-        Answer::Refused(n) => say(rt, "refused", n as u64),
+        Ok(n) => say(rt, label, n as u64),
+        Err(refusal) => refused(rt, refusal.number()),
     }
 }
 
-fn tell_part(rt: &impl Print, part: TitlePart) -> io::Result<()> {
+fn tell_part(rt: &impl Print, part: Result<TitlePart, Refusal>) -> io::Result<()> {
     match part {
-        TitlePart::Part { place, length } => {
-            say(rt, "title at", place as u64)?;
-            say(rt, "title of", length as u64)
+        Ok(part) => {
+            say(rt, "title at", part.place as u64)?;
+            say(rt, "title of", part.length as u64)
         }
-        TitlePart::Refused(n) => say(rt, "refused", n as u64),
+        Err(refusal) => refused(rt, refusal.number()),
     }
 }
 
@@ -77,8 +79,8 @@ fn read(rt: &impl Print, archive: &[u8]) -> io::Result<()> {
 fn print(rt: &impl Print, archive: &[u8], text: &mut [u8]) -> io::Result<()> {
     let answer = report::report(archive, text);
     match answer {
-        Answer::Value(n) => rt.write_all(&text[0..n]),
-        Answer::Refused(n) => say(rt, "refused", n as u64),
+        Ok(n) => rt.write_all(&text[0..n]),
+        Err(refusal) => refused(rt, refusal.number()),
     }
 }
 
@@ -96,20 +98,16 @@ fn file(rt: &impl Print, record: &[u8]) -> io::Result<()> {
 
 fn check(rt: &impl Print, record: &[u8]) -> io::Result<()> {
     match validation::check(record) {
-        Checked::Valid(segment) => say(rt, "cycle", segment.cycle as u64),
-        Checked::Refused(n) => say(rt, "refused", n as u64),
+        Ok(segment) => say(rt, "cycle", segment.cycle as u64),
+        Err(refusal) => refused(rt, refusal.number()),
     }
 }
 
 fn discharge_of(rt: &impl Print, record: &[u8]) -> io::Result<()> {
     let mut profile = [0u32; limits::DISCHARGE_ROOM];
     match discharge::discharge(record, &mut profile) {
-        Discharged::Volumes {
-            left: _,
-            through,
-            right: _,
-        } => say(rt, "through discharges", through as u64),
-        Discharged::Refused(n) => say(rt, "refused", n as u64),
+        Ok(volumes) => say(rt, "through discharges", volumes.through as u64),
+        Err(refusal) => refused(rt, refusal.number()),
     }
 }
 
@@ -117,12 +115,9 @@ fn work(rt: &impl Print, record: &[u8]) -> io::Result<()> {
     let mut output = [0u32; limits::OUTPUT_ROOM];
     let mut first = [0u32; limits::CYCLE_ROOM];
     let mut second = [0u32; limits::CYCLE_ROOM];
-    let w = working::work(record, &mut output, &mut first, &mut second);
-    let outcome = w.outcome;
-    match outcome {
-        Outcome::Worked(_) => say(rt, "permille on green", w.through.permille as u64),
-        Outcome::Refused(n) => say(rt, "refused", n as u64),
-        Outcome::Unsettled(_) => say(rt, "refused", 15),
+    match working::work(record, &mut output, &mut first, &mut second) {
+        Ok(w) => say(rt, "permille on green", w.through.permille as u64),
+        Err(unworked) => refused(rt, unworked.number()),
     }
 }
 
@@ -136,12 +131,9 @@ fn print_sheet(rt: &impl Print, record: &[u8]) -> io::Result<()> {
     let mut output = [0u32; limits::OUTPUT_ROOM];
     let mut first = [0u32; limits::CYCLE_ROOM];
     let mut second = [0u32; limits::CYCLE_ROOM];
-    let w = sheet::sheet(record, &mut page, &mut output, &mut first, &mut second);
-    let outcome = w.outcome;
-    match outcome {
-        Outcome::Worked(_) => show(rt, &page[0..730]),
-        Outcome::Refused(n) => say(rt, "refused", n as u64),
-        Outcome::Unsettled(_) => say(rt, "refused", 15),
+    match sheet::sheet(record, &mut page, &mut output, &mut first, &mut second) {
+        Ok(_) => show(rt, &page[0..730]),
+        Err(unworked) => refused(rt, unworked.number()),
     }
 }
 
@@ -172,7 +164,7 @@ fn work_points(rt: &impl Print, record: &[u8]) -> io::Result<()> {
     let mut passing = [0u32; 2 * limits::CYCLE_ROOM];
     let mut first = [0u32; limits::CYCLE_ROOM];
     let mut second = [0u32; limits::CYCLE_ROOM];
-    let w = point_working::work_points(
+    let answer = point_working::work_points(
         record,
         two_points(),
         &mut output,
@@ -180,13 +172,12 @@ fn work_points(rt: &impl Print, record: &[u8]) -> io::Result<()> {
         &mut first,
         &mut second,
     );
-    let working = w.working;
-    let outcome = working.outcome;
-    let blocked = w.blocked;
-    match outcome {
-        Outcome::Worked(_) => tell_blocked(rt, blocked),
-        Outcome::Refused(n) => say(rt, "refused", n as u64),
-        Outcome::Unsettled(_) => say(rt, "refused", 15),
+    match answer {
+        Ok(w) => {
+            let blocked = w.blocked;
+            tell_blocked(rt, blocked)
+        }
+        Err(unworked) => refused(rt, unworked.number()),
     }
 }
 

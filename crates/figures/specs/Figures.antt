@@ -1,6 +1,6 @@
 -- The starred figures of the paper, computed from the definitions that the contracts cite.
 use Rattle.std.specs.Prelude.{ℕ, ◌≡◌, refl, List, [], ◌∷◌, ◌++◌, take, drop, replicate, Ok, Err}
-use Rattle.refusal.specs.Refusal.{Or, need}
+use Rattle.refusal.specs.Refusal.{number, Or, need}
 use Rattle.octets.specs.Octets.{word2, word4}
 use Rattle.lists.specs.Lists.{tab}
 use Rattle.signal.specs.declared.Green.{Green}
@@ -29,7 +29,7 @@ green post steps = record { start = record { 0 = post }; steps = steps }
 
 -- level and carry after each of the first two steps from an empty segment
 abbrev pub first_arrivals : Or Segment → List ℕ
-first_arrivals (Err n) = n ∷ []
+first_arrivals (Err refusal) = number refusal ∷ []
 first_arrivals (Ok s) =
     let q = entry_profile s.cycle s.through in
     let one = state_after s.running (take 1 q) empty_state in
