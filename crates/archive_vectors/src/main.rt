@@ -1,7 +1,7 @@
 // Compares the archive calls with the vectors of docs/VECTORS.md. A body is a kind, an archive, what is asked and what must be answered.
 #![tactic(auto)]
 
-use archive_format::Answer;
+use refusal::Refusal;
 use std::io;
 
 // What of a body is still to be read. Nothing is read beyond its end.
@@ -35,10 +35,10 @@ impl<'a> Body<'a> {
 }
 
 // The answer is the number of a refusal with the value 0, or else the value.
-fn answers(a: Answer, number: u32, value: usize) -> bool {
-    match a {
-        Answer::Refused(n) => (n == number) & (value == 0),
-        Answer::Value(v) => (number == 0) & (v == value),
+fn answers(answer: Result<usize, Refusal>, number: u32, value: usize) -> bool {
+    match answer {
+        Ok(v) => (number == 0) & (v == value),
+        Err(refusal) => (refusal.number() == number) & (value == 0),
     }
 }
 

@@ -7,7 +7,7 @@ ghost use Rattle.std.specs.Prelude.{◌+◌, ◌≤◌};
 ghost use Rattle.balance_pairs.specs.Pairs.{WithinLimit};
 
 use balance::{Balance, Settling};
-use balance_decision::Outcome;
+use balance_decision::Unworked;
 use balance_flows::FlowTable;
 use movements::{Counts, PerMovement, Seeds};
 use std::io;
@@ -43,29 +43,34 @@ fn balance_differs(s: &[u8; 260], x: Balance) -> bool {
     }
 }
 
-fn decision_differs(s: &[u8; 260], outcome: Outcome, rounds: u32, b: Balance) -> bool {
-    match outcome {
-        Outcome::Worked(sum) => {
-            balance_differs(s, b) | vectors::float_differs(s, 60, sum) | (rounds != b.rounds)
-        }
-        Outcome::Unsettled(sum) => {
-            balance_differs(s, b) | vectors::float_differs(s, 60, sum) | (rounds != 0)
-        }
+fn unworked_differs(s: &[u8; 260], u: Unworked, b: Balance) -> bool {
+    match u {
+        Unworked::Unsettled(sum) => balance_differs(s, b) | vectors::float_differs(s, 60, sum),
         // No settling was run: no rounds, no sum, no cells.
-        Outcome::Refused(_) => {
-            settling_differs(s, 2, 0, 0.0, FlowTable::default()) | (rounds != 0)
-        }
+        Unworked::Refused(_) => settling_differs(s, 2, 0, 0.0, FlowTable::default()),
     }
 }
 
+// Where there are no pair flows, those expected are all 0.
 fn answer_differs(s: &[u8; 260], o: Counts, exits: Counts, seeds: Seeds) -> bool
     requires { WithinLimit o }
 {
-    let x = balance_decision::decide(o, exits, seeds);
-    let outcome = x.outcome;
-    (octets::word4_at(s, 48) != balance_decision::refusal_of(outcome))
-        | vectors::rows_differ(s, 196, x.pairs.into())
-        | decision_differs(s, outcome, x.rounds, balance::balanced(o, exits, seeds))
+    let number = octets::word4_at(s, 48);
+    let b = balance::balanced(o, exits, seeds);
+    match balance_decision::decide(o, exits, seeds) {
+        Ok(d) => {
+            (number != 0)
+                | vectors::rows_differ(s, 196, d.pairs.into())
+                | balance_differs(s, b)
+                | vectors::float_differs(s, 60, d.sum)
+                | (d.rounds != b.rounds)
+        }
+        Err(u) => {
+            (number != u.number())
+                | vectors::rows_differ(s, 196, [[0u32; 4]; 4])
+                | unworked_differs(s, u, b)
+        }
+    }
 }
 
 // A body of another length differs, and so does a discharge out of range.

@@ -1,27 +1,21 @@
 // Runs the discharge call on the vectors of docs/VECTORS.md and compares every number.
 #![tactic(auto)]
 
-use discharge::Discharged;
+use movements::Signalised;
+use refusal::Refusal;
 use std::io;
 use vectors::ROOM;
 
-fn answer_differs(expected: &[u8; 16], answer: Discharged) -> bool {
+fn answer_differs(expected: &[u8; 16], answer: Result<Signalised<u32>, Refusal>) -> bool {
     let number = octets::word4_at(expected, 0);
-    let left_volume = octets::word4_at(expected, 4);
-    let through_volume = octets::word4_at(expected, 8);
-    let right_volume = octets::word4_at(expected, 12);
     match answer {
-        Discharged::Refused(n) => n != number,
-        Discharged::Volumes {
-            left,
-            through,
-            right,
-        } => {
+        Ok(o) => {
             (number != 0)
-                | (left != left_volume)
-                | (through != through_volume)
-                | (right != right_volume)
+                | (octets::word4_at(expected, 4) != o.left)
+                | (octets::word4_at(expected, 8) != o.through)
+                | (octets::word4_at(expected, 12) != o.right)
         }
+        Err(refusal) => refusal.number() != number,
     }
 }
 

@@ -20,7 +20,7 @@ use Rattle.discharge.specs.Discharge.{accept_of, profile_after}
 use Rattle.dispersion.specs.Dispersion.{divisor_of, arrival_time_of, empty_state, step_of, state_after}
 use Rattle.pair_parts.specs.PairParts.{parts, pair_arrivals}
 use Rattle.exit_figures.specs.ExitFigures.{blocked, blocked_steps}
-use Rattle.archive_format.specs.Archive.{body, places, encode, printables, titled, rising, last_number, filed_from, runs, decode_body, decode, add_to, add_of}
+use Rattle.archive_format.specs.Archive.{body, places, encode, titled, rising, last_number, filed_from, runs, decode_body, decode, add_to, add_of}
 use Rattle.archive_format.specs.Figures.{empty_archive, one_record, one_length, one_trailer}
 use Rattle.figures.specs.Records.{through_entry}
 
@@ -76,7 +76,7 @@ pub figures :
     ∷ (0 ∷ 0 ∷ 1 ∷ 0 ∷ 69 ∷ 0 ∷ 68 ∷ 82 ∷ [])
     ∷ (77 ∷ [])
     ∷ []
-unfolding computed divisor_of arrival_time_of step_of state_after parts pair_arrivals blocked blocked_steps body places encode printables titled
+unfolding computed divisor_of arrival_time_of step_of state_after parts pair_arrivals blocked blocked_steps body places encode titled
     rising last_number filed_from runs decode_body decode add_to add_of empty_archive one_record tab turn green_step green_steps capacity received
     landing landed need word2 word4 green_of greens_of entry_of volumes_of row_of table_of zero_seeds seeds_of segment_of cycle_fits running_fits
     headway_fits volumes_fit greens_fit seeds_add check_of discharge_volume carried green_arrivals served_of served queue_of green_flows profile_of

@@ -3,6 +3,7 @@
 
 ghost use Rattle.std.specs.Prelude.{◌+◌, ◌≤◌, length};
 
+use balance_decision::Unworked;
 use point_working::PointWorking;
 use points::{Point, Points};
 use std::io;
@@ -35,16 +36,22 @@ fn points_at(s: &[u8; 68]) -> Points {
     }
 }
 
-// What must be answered: number, eight counts.
-fn answer_differs(expected: &[u8; 36], answer: PointWorking) -> bool {
-    let working = answer.working;
-    let outcome = working.outcome;
-    let blocked = answer.blocked;
-    (octets::word4_at(expected, 0) != balance_decision::refusal_of(outcome))
-        | vectors::numbers_differ(expected, 4, &blocked)
+// What must be answered: number, eight counts, 0 where the record does not work.
+fn answer_differs(expected: &[u8; 36], answer: Result<PointWorking, Unworked>) -> bool {
+    let number = octets::word4_at(expected, 0);
+    match answer {
+        Ok(w) => {
+            let blocked = w.blocked;
+            (number != 0) | vectors::numbers_differ(expected, 4, &blocked)
+        }
+        Err(u) => {
+            let none = [0u32; points::POINT_ROOM];
+            (number != u.number()) | vectors::numbers_differ(expected, 4, &none)
+        }
+    }
 }
 
-fn work(record: &[u8], points: Points, lent: &mut Profiles) -> PointWorking {
+fn work(record: &[u8], points: Points, lent: &mut Profiles) -> Result<PointWorking, Unworked> {
     point_working::work_points(
         record,
         points,

@@ -7,7 +7,7 @@ ghost use Rattle.report.specs.Report.{input_limit, input_text, text_room};
 ghost use Rattle.report.specs.Whole.{Text};
 ghost use Rattle.program.specs.Program.{Prints};
 
-use archive_format::Answer;
+use refusal::Refusal;
 use report::Form;
 use std::io;
 use std::io::{Read, Write};
@@ -37,23 +37,23 @@ pub fn write_answer<W: Write>(
     form: Form,
     input: &[u8],
     text: &[u8],
-    answer: Answer,
+    answer: Result<usize, Refusal>,
 ) -> io::Result<usize>
     requires { Text form input.now text.now answer }
     ensures size { IfOk result (λ n. n ≡ length (input_text form input.now)) }
     ensures written { OnOk result (Appends (W.contents to.old) (W.contents to.new) (input_text form input.now)) }
 {
     match answer {
-        Answer::Value(n) => {
+        Ok(n) => {
             write_text(to, form, input, &text[..n])?;
             Ok(n)
         }
-        Answer::Refused(_) => Ok(0),
+        Err(_) => Ok(0),
     }
 }
 
 // The text of an input to a lent buffer that has room for every text of its form.
-fn make_text(form: Form, input: &[u8], text: &mut [u8]) -> Answer
+fn make_text(form: Form, input: &[u8], text: &mut [u8]) -> Result<usize, Refusal>
     requires { text_room form ≤ length text.old }
     ensures { Text form input.now text.new result }
 {

@@ -2,6 +2,7 @@
 // number of the three profiles.
 #![tactic(auto)]
 
+use balance_decision::Unworked;
 use std::io;
 use vectors::{Profiles, ROOM};
 use working_outcome::Working;
@@ -10,13 +11,15 @@ use working_outcome::Working;
 const PAGE_ROOM: usize = 4500;
 
 // What must be answered: number, last sum.
-fn answer_differs(expected: &[u8; 12], answer: Working) -> bool {
-    let outcome = answer.outcome;
-    (octets::word4_at(expected, 0) != balance_decision::refusal_of(outcome))
-        | vectors::float_differs(expected, 4, balance_decision::last_sum_of(outcome))
+fn answer_differs(expected: &[u8; 12], answer: Result<Working, Unworked>) -> bool {
+    let (number, sum) = match answer {
+        Ok(w) => (0, w.sum),
+        Err(u) => (u.number(), u.last_sum()),
+    };
+    (octets::word4_at(expected, 0) != number) | vectors::float_differs(expected, 4, sum)
 }
 
-fn sheet(record: &[u8], page: &mut [u8], lent: &mut Profiles) -> Working {
+fn sheet(record: &[u8], page: &mut [u8], lent: &mut Profiles) -> Result<Working, Unworked> {
     sheet::sheet(record, page, lent.output, lent.first, lent.second)
 }
 

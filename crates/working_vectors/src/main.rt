@@ -3,6 +3,7 @@
 
 ghost use Rattle.std.specs.Prelude.{◌+◌, ◌≤◌};
 
+use balance_decision::Unworked;
 use exit_figures::ExitFigures;
 use std::io;
 use vectors::{Profiles, ROOM};
@@ -16,22 +17,33 @@ fn figures_differ(expected: &[u8; 156], at: usize, exit: ExitFigures) -> bool
         | (octets::word4_at(expected, at + 16) != exit.permille)
 }
 
-// What must be answered: number, last sum, platoon arrival time, rounds, pair flows, three exits' figures, access total, blocked steps.
-fn answer_differs(expected: &[u8; 156], answer: Working) -> bool {
-    let outcome = answer.outcome;
-    (octets::word4_at(expected, 0) != balance_decision::refusal_of(outcome))
-        | vectors::float_differs(expected, 4, balance_decision::last_sum_of(outcome))
-        | (octets::word4_at(expected, 12) != answer.arrival)
-        | (octets::word4_at(expected, 16) != answer.rounds)
-        | vectors::rows_differ(expected, 20, answer.pairs.into())
-        | figures_differ(expected, 84, answer.left)
-        | figures_differ(expected, 104, answer.through)
-        | figures_differ(expected, 124, answer.right)
-        | (octets::word8_at(expected, 144) != answer.access)
-        | (octets::word4_at(expected, 152) != answer.blocked)
+fn working_differs(expected: &[u8; 156], w: Working) -> bool {
+    vectors::float_differs(expected, 4, w.sum)
+        | (octets::word4_at(expected, 12) != w.arrival)
+        | (octets::word4_at(expected, 16) != w.rounds)
+        | vectors::rows_differ(expected, 20, w.pairs.into())
+        | figures_differ(expected, 84, w.left)
+        | figures_differ(expected, 104, w.through)
+        | figures_differ(expected, 124, w.right)
+        | (octets::word8_at(expected, 144) != w.access)
+        | (octets::word4_at(expected, 152) != w.blocked)
 }
 
-fn work(record: &[u8], lent: &mut Profiles) -> Working {
+// What must be answered: number, last sum, platoon arrival time, rounds, pair flows, three exits' figures, access total, blocked steps.
+// Where the record does not work, all behind the last sum is 0.
+fn answer_differs(expected: &[u8; 156], answer: Result<Working, Unworked>) -> bool {
+    let number = octets::word4_at(expected, 0);
+    match answer {
+        Ok(w) => (number != 0) | working_differs(expected, w),
+        Err(u) => {
+            (number != u.number())
+                | vectors::float_differs(expected, 4, u.last_sum())
+                | expected[12..].iter().any(|b| *b != 0)
+        }
+    }
+}
+
+fn work(record: &[u8], lent: &mut Profiles) -> Result<Working, Unworked> {
     working::work(record, lent.output, lent.first, lent.second)
 }
 
