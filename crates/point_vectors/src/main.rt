@@ -51,11 +51,7 @@ fn answer_differs(expected: &[u8; 36], answer: Result<PointWorking, Unworked>) -
     }
 }
 
-fn work(
-    record: &[u8],
-    points: Points,
-    lent: &mut Profiles,
-) -> Result<PointWorking, Unworked> {
+fn work(record: &[u8], points: Points, lent: &mut Profiles) -> Result<PointWorking, Unworked> {
     point_working::work_points(
         record,
         points,
