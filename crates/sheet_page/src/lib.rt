@@ -121,7 +121,13 @@ pub fn refused_page(text: &mut Writer, number: u32, k: u32)
 
 // The page of a record by what its working answered. The output is looked at where it has worked, and is asked to hold the run there.
 #[tactic(auto, unfolding(crate::specs::SheetPage::record_page))]
-pub fn record_page(text: &mut Writer, number: u32, cycle: u32, answer: Result<Working, Unworked>, output: &[u32])
+pub fn record_page(
+    text: &mut Writer,
+    number: u32,
+    cycle: u32,
+    answer: Result<Working, Unworked>,
+    output: &[u32],
+)
     requires { RunStands cycle answer output.now }
     ensures { Wrote text.old (record_page number cycle answer output.now) text.new }
 {
