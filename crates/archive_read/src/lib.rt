@@ -31,7 +31,7 @@ fn find_in(e: SizedEdition, s: &[u8], number: u32) -> Result<usize, Refusal>
     ensures { result ≡ find_of e.edition s.now number }
 {
     let archive = Archive::open(e, s)?;
-    archive.seek(number)
+    archive_open::seek(archive.edition.size, archive.bytes, archive.count, number)
 }
 
 #[tactic(auto, unfolding(archive_format::specs::Archive::title_part_of))]
