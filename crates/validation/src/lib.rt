@@ -12,8 +12,8 @@ use refusal::{Refusal, need};
 pub fn check(bytes: &[u8]) -> Result<Accepted, Refusal>
     ensures { result ≡ check_of bytes.now }
 {
-    need(Refusal::Record, bytes.len() == segment::SIZE)?;
-    let s = segment::segment_of(bytes);
+    let record = bytes.as_array().ok_or(Refusal::Record)?;
+    let s = segment::segment_of(record);
     need(Refusal::Cycle, ranges::cycle_fits(s))?;
     need(Refusal::RunningTime, ranges::running_fits(s))?;
     need(Refusal::Headway, ranges::headway_fits(s))?;
