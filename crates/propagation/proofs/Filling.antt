@@ -5,7 +5,7 @@ use mathlib.Core.Path.{◌≡◌, refl, ap, ◌∙◌}
 use mathlib.Core.List.{List, [], ◌++◌}
 use lib.ListN.{length, drop, get_or}
 use lib.Seq.{drop_at}
-use lib.ListN.{length-append}
+use lib.ListN.{length-append, length-drop}
 use Rattle.limits.specs.Limits.{entry_limit}
 use Rattle.movements.specs.PerMovement.{Counts}
 use Rattle.movements.specs.Movements.{flow_units}
@@ -21,7 +21,7 @@ use Rattle.arrivals.specs.Arrivals.{arrival_limit, run_limit, begun, four_runs}
 use Rattle.arrivals.proofs.Laws.{runs_le}
 use Rattle.arrivals.proofs.Laws.{runs_length, begun_runs, added_runs}
 use Rattle.propagation.specs.Propagation.{Profiles, profiles, cycles_before, cycles, pair_flow, entry_arrivals, pair_of, lands_in, flow_at, filled_of}
-use Rattle.propagation.specs.Steps.{spread_step, FillEntryFits, entry_step, Room, RowsFit, FillFits}
+use Rattle.propagation.specs.Steps.{spread_step, FillEntryFits, entry_step, Room, RowsFit, FillFits, room_kept}
 use Rattle.propagation.proofs.Largest.{lands_in_le}
 
 -- the flow units that the access entry can bring to a step
@@ -36,13 +36,13 @@ pub record Filling (s : Segment) (p₀ p : Profiles) (b : ℕ) (r : ℕ → ℕ 
   pub first : drop s.cycle p.first ≡ drop s.cycle p₀.first
   pub second : drop s.cycle p.second ≡ drop s.cycle p₀.second
 
-pub fill_begin : {s : Segment} {rows : List (List ℕ)} {o f g : List ℕ} → {v : Counts} → FillFits s v rows (profiles o f g) → {o' : List ℕ} →
+pub fill_begin : {s : Segment} {rows : List (List ℕ)} {o f g : List ℕ} → {v : Counts} → Ranges s → FillFits s v rows (profiles o f g) → {o' : List ℕ} →
     o' ≡ begun s.cycle (get_or rows 3 []) o → length o' ≡ length o → Filling s (profiles o f g) (profiles o' f g) access_limit (λ j k. pair_flow rows 3 j)
-fill_begin {s} {rows} {o} h e n =
+fill_begin {s} {rows} {o} ranges h e n =
     record {
       room = record { output = omega (arith, h.room.output, n); first = h.room.first; second = h.room.second };
       runs = e ∙ begun_runs s.cycle (get_or rows 3 []) o (h.shares.four 3 (omega arith));
-      small = λ j k _ _ _. omega (arith, h.shares.access j, h.ranges.access);
+      small = λ j k _ _ _. omega (arith, h.shares.access j, ranges.access);
       first = refl;
       second = refl;
     }
@@ -101,3 +101,15 @@ then_last {s} {p₀} {p} {b} {rows} ranges fit h e =
     let l : length (entry_profile s.cycle s.right) ≡ s.cycle = entry_length s.cycle s.right in
     let t = then_entry h ranges (get_or rows 2 []) ranges.right (fit.four 2 (omega arith)) fit.right e in
     e ∙ rw (← (ap (λ (q : Profiles). q.output) e), t.runs, l, h.first, h.second)
+
+-- filling keeps the profiles' lengths
+pub filled_room : (s : Segment) (rows : List (List ℕ)) (p : Profiles) → Room s.cycle p → {n : ℕ} → Room n p → Room n (filled_of s rows p)
+unfolding filled_of
+filled_room s rows p fits r =
+    let q = entry_profile s.cycle s.right in
+    let before = reported_length s.running q (cycles_before - 1) ∙ entry_length s.cycle s.right in
+    let last = reported_length s.running q cycles_before ∙ entry_length s.cycle s.right in
+    room_kept p (filled_of s rows p) r
+    (runs_length s.cycle (flow_at s rows) (drop (4 * s.cycle) p.output) ∙ simp length-drop (omega (arith, fits.output)))
+    (simp (length-append, length-drop) (omega (arith, last, fits.first)))
+    (simp (length-append, length-drop) (omega (arith, before, fits.second)))
