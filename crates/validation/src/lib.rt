@@ -4,12 +4,12 @@
 ghost use Rattle.std.specs.Prelude.{◌≡◌};
 ghost use Rattle.validation.specs.Validation.{check_of};
 
+use ranges::Accepted;
 use refusal::{Refusal, need};
-use segment::Segment;
 
-// The segment of a record, or the lowest of the refusals 6 to 12 that its bytes meet.
-#[tactic(auto, unfolding(crate::specs::Validation::check_of, refusal::specs::Refusal::need))]
-pub fn check(bytes: &[u8]) -> Result<Segment, Refusal>
+// The accepted segment of a record, or the lowest of the refusals 6 to 12 that its bytes meet.
+#[tactic(auto, using(ranges::proofs::Ranges::tests_ranges), unfolding(crate::specs::Validation::check_of, refusal::specs::Refusal::need))]
+pub fn check(bytes: &[u8]) -> Result<Accepted, Refusal>
     ensures { result ≡ check_of bytes.now }
 {
     let record = bytes.as_array().ok_or(Refusal::Record)?;
@@ -20,5 +20,5 @@ pub fn check(bytes: &[u8]) -> Result<Segment, Refusal>
     need(Refusal::Volume, ranges::volumes_fit(s))?;
     need(Refusal::GreenTime, ranges::greens_fit(s))?;
     need(Refusal::SeedRow, ranges::seeds_add(s.seeds))?;
-    Ok(s)
+    Ok(Accepted { segment: s })
 }
