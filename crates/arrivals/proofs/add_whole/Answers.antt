@@ -1,10 +1,7 @@
 use Rattle.std.proofs.Common.{add-one, drop-cons, drop_of_length-le, arith}
 use Rattle.signal.proofs.Adding.{adding_done}
-use Rattle.arrivals.proofs.Landing.{lands_pos, lands_le, at_within, landing_turn}
+use Rattle.arrivals.proofs.Landing.{lands_le, at_within, landing_turn}
 use Rattle.arrivals.proofs.add_whole.Goals as goal
-
-pub index-at-requires : goal.index-at-requires
-index-at-requires c = lands_pos c.loop-arrival.invariant c.requires
 
 pub offset_bounds-run-at : goal.offset_bounds-run-at
 offset_bounds-run-at c = omega (arith, at_within c.loop-arrival.invariant c.requires c.loop-arrival-test.true c.index-at.ensures)
@@ -16,10 +13,7 @@ pub bounds-run-at-in-loop-arrival : goal.bounds-run-at-in-loop-arrival
 bounds-run-at-in-loop-arrival c = at_within c.loop-arrival.invariant c.requires c.loop-arrival-test.true c.index-at.ensures
 
 pub next-step-requires : goal.next-step-requires
-next-step-requires c =
-    let l = c.loop-arrival.invariant in
-    let a = c.requires in
-    omega (arith, lands_pos l a, lands_le l a, a.cycle)
+next-step-requires c = lands_le c.loop-arrival.invariant c.requires
 
 pub loop-arrival-preserved : goal.loop-arrival-preserved
 loop-arrival-preserved c =
