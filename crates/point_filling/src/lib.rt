@@ -9,6 +9,7 @@ ghost use Rattle.points.specs.Points.{given};
 ghost use Rattle.point_flows.specs.PointFlows.{point_run, point_blocked, point_runs, point_counts};
 ghost use Rattle.point_filling.specs.Steps.{PassFits, PointFits, EachFits, FillFits};
 
+use exit_figures::Run;
 use points::{Point, Points};
 use ranges::Accepted;
 
@@ -40,7 +41,7 @@ fn fill_point(accepted: Accepted, p: Point, discharges: &[u32], run: &mut [u32])
     pass(p.running, &discharges[0..one], run);
     pass(p.running, &discharges[one..two], run);
     pass(p.running, &discharges[two..three], run);
-    exit_figures::blocked_steps(p.headway, &run[..])
+    Run { steps: &run[..] }.blocked_steps(p.headway)
 }
 
 // The points given, in order; the count of one that is not given is 0.

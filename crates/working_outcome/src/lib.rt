@@ -6,7 +6,7 @@ ghost use Rattle.working_outcome.specs.Answer.{worked_of};
 ghost use Rattle.working_outcome.specs.Filled.{Filled};
 
 use balance_decision::Decision;
-use exit_figures::ExitFigures;
+use exit_figures::{ExitFigures, Run};
 use pair_flows::PairFlows;
 use propagation::LentProfiles;
 use ranges::Accepted;
@@ -37,15 +37,27 @@ pub fn worked(accepted: Accepted, d: Decision, profiles: &LentProfiles) -> Worki
     let two = one + one;
     let three = two + one;
     let four = three + one;
+    let left = Run {
+        steps: &output[0..one],
+    };
+    let through = Run {
+        steps: &output[one..two],
+    };
+    let right = Run {
+        steps: &output[two..three],
+    };
+    let access = Run {
+        steps: &output[three..four],
+    };
     Working {
         sum: d.sum,
         arrival: dispersion::arrival_time(s.running),
         rounds: d.rounds,
         pairs: d.pairs,
-        left: exit_figures::figures(s.downstream.left, &output[0..one]),
-        through: exit_figures::figures(s.downstream.through, &output[one..two]),
-        right: exit_figures::figures(s.downstream.right, &output[two..three]),
-        access: exit_figures::total(&output[three..four]),
-        blocked: exit_figures::blocked_steps(s.headway, &output[one..two]),
+        left: left.figures(s.downstream.left),
+        through: through.figures(s.downstream.through),
+        right: right.figures(s.downstream.right),
+        access: access.total(),
+        blocked: through.blocked_steps(s.headway),
     }
 }

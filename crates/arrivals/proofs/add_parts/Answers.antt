@@ -1,10 +1,7 @@
 use Rattle.std.proofs.Common.{arith, ◌∙◌, ap, drop-cons, drop_of_length-le, add-one}
 use Rattle.signal.proofs.Adding.{adding_done}
-use Rattle.arrivals.proofs.Landing.{lands_pos, lands_le, at_within, landing_turn}
+use Rattle.arrivals.proofs.Landing.{lands_le, at_within, landing_turn}
 use Rattle.arrivals.proofs.add_parts.Goals as goal
-
-pub index-at-requires : goal.index-at-requires
-index-at-requires g c = lands_pos c.loop-arrival.invariant.1 c.requires.fits
 
 pub offset_bounds-run-at : goal.offset_bounds-run-at
 offset_bounds-run-at g c = omega (arith, at_within c.loop-arrival.invariant.1 c.requires.fits c.loop-arrival-test.true c.index-at.ensures)
@@ -16,10 +13,7 @@ pub bounds-run-at-in-loop-arrival : goal.bounds-run-at-in-loop-arrival
 bounds-run-at-in-loop-arrival g c = at_within c.loop-arrival.invariant.1 c.requires.fits c.loop-arrival-test.true c.index-at.ensures
 
 pub next-lands-requires : goal.next-lands-requires
-next-lands-requires g c =
-    let l = c.loop-arrival.invariant.1 in
-    let a = c.requires.fits in
-    omega (arith, lands_pos l a, lands_le l a, a.cycle)
+next-lands-requires g c = lands_le c.loop-arrival.invariant.1 c.requires.fits
 
 pub loop-arrival-preserved : goal.loop-arrival-preserved
 loop-arrival-preserved g c =

@@ -7,4 +7,4 @@ abbrev pub invariant-loop-arrival : goal.invariant-loop-arrival
 invariant-loop-arrival g l =
     let s = g.S.Share in
     s.fair l.share
-    × Landing l.t l.arrived (s.parts l.fn.share l.arrived) (s.parts l.share (drop l.arrival-index l.arrived)) l.initial.run l.run l.lands.0 l.arrival-index
+    × Landing l.t l.arrived (s.parts l.fn.share l.arrived) (s.parts l.share (drop l.arrival-index l.arrived)) l.initial.run l.run l.lands l.arrival-index
