@@ -12,7 +12,7 @@ ghost use Rattle.sheet_page.specs.SheetPage.{RunStands, record_page, refused_pag
 use balance_decision::Unworked;
 use buffer::Writer;
 use exit_figures::ExitFigures;
-use page::{end_line, end_page};
+use page::{end_page, line};
 use report_lines::{exit_words, record_words, refused_words};
 use text::append_columns;
 use working_outcome::Working;
@@ -34,17 +34,16 @@ const HEAD_LINES: usize = 8;
 fn record_line(text: &mut Writer, number: u32, cycle: u32, w: Working)
     ensures { Wrote text.old (line (record_words number cycle w.arrival w.rounds)) text.new }
 {
-    let from = text.at;
-    record_words(text, number, cycle, w.arrival, w.rounds);
-    end_line(text, from);
+    line(
+        text,
+        |text| record_words(text, number, cycle, w.arrival, w.rounds),
+    );
 }
 
 fn exit_line(text: &mut Writer, label: &[u8], f: ExitFigures)
     ensures { Wrote text.old (line (exit_words label.now f)) text.new }
 {
-    let from = text.at;
-    exit_words(text, label, f);
-    end_line(text, from);
+    line(text, |text| exit_words(text, label, f));
 }
 
 // A line of numbers in columns.
@@ -52,27 +51,19 @@ fn columns_line(text: &mut Writer, width: usize, unit: u32, numbers: &[u32])
     requires { 0 < unit }
     ensures { Wrote text.old (line (columns width unit numbers.now)) text.new }
 {
-    let from = text.at;
-    append_columns(text, width, unit, numbers);
-    end_line(text, from);
+    line(text, |text| append_columns(text, width, unit, numbers));
 }
 
-// The four pair flows of an entry.
-fn pair_line(text: &mut Writer, row: [u32; 4])
-    ensures { Wrote text.old (line (columns pair_width pair_unit row)) text.new }
-{
-    columns_line(text, PAIR_WIDTH, PAIR_UNIT, &row);
-}
-
+// A line for each entry: what it sends to each exit.
 fn pair_lines(text: &mut Writer, rows: [[u32; 4]; 4])
     ensures { Wrote text.old (lines (pair_lines rows)) text.new }
 {
-    pair_line(text, rows[0]);
-    pair_line(text, rows[1]);
-    pair_line(text, rows[2]);
-    pair_line(text, rows[3]);
+    for row in &rows {
+        columns_line(text, PAIR_WIDTH, PAIR_UNIT, row);
+    }
 }
 
+// Three calls: a loop over pairs of label and figures is longer.
 fn exit_lines(text: &mut Writer, w: Working)
     ensures { Wrote text.old (lines (exit_lines w)) text.new }
 {
@@ -113,13 +104,12 @@ pub fn worked_page(text: &mut Writer, number: u32, cycle: u32, w: Working, outpu
 pub fn refused_page(text: &mut Writer, number: u32, k: u32)
     ensures { Wrote text.old (refused_page number k) text.new }
 {
-    let from = text.at;
-    refused_words(text, number, k);
-    end_line(text, from);
+    line(text, |text| refused_words(text, number, k));
     end_page(text, 1);
 }
 
 // The page of a record by what its working answered. The output is looked at where it has worked, and is asked to hold the run there.
+// A match: two closures, one for each answer, cannot both hold the text.
 #[tactic(auto, unfolding(crate::specs::SheetPage::record_page))]
 pub fn record_page(
     text: &mut Writer,
