@@ -1,9 +1,9 @@
 -- What opening an archive answers, and what that says of its reading.
-use Rattle.std.specs.Prelude.{ℕ, ◌+◌, ◌*◌, ◌≡◌, true, List, length, Ok, Err}
+use Rattle.std.specs.Prelude.{ℕ, ◌+◌, ◌*◌, ◌≡◌, refl, true, List, length, Ok, Err}
 use Rattle.std.proofs.Common.{sym, ◌∙◌}
 use Rattle.refusal.specs.Refusal.{Or}
 use Rattle.archive_format.specs.declared.Edition.{Edition}
-use Rattle.archive_format.specs.Archive.{Filed, last_number, filed_from, runs, count_at, trailer_at, decode}
+use Rattle.archive_format.specs.Archive.{Filed, body, last_number, filed_from, runs, count_at, trailer_at, decode}
 use Rattle.archive_format.specs.Reading.{filed_length, Reads, reads}
 use Rattle.archive_open.specs.declared.Archive.{Archive}
 
@@ -37,6 +37,12 @@ holds a =
 
 pub held : {e : Edition} {l : List ℕ} (a : Archive) → Opens e l (Ok a) → Held e l a.count a.trailer a.last
 held a o = rw o.0 at (rw o.1 at (holds a))
+
+-- of whatever reads, opened or not
+pub held_by : (e : Edition) (l : List ℕ) (fs : List Filed) → decode e l ≡ Ok fs → Held e l (length fs) (length (body fs)) (last_number 0 fs)
+held_by e l fs r =
+    let m : Reads e l fs = reads e l fs r in
+    record { fs = fs; is = r; count_is = sym m.count; trailer_is = sym m.trailer; last_is = refl; read = m }
 
 module _ (e : Edition) (l : List ℕ) {count t last : ℕ} (h : Held e l count t last) where
   pub held_run : runs e.size count l t 0 t ≡ true

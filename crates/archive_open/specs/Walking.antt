@@ -2,10 +2,11 @@
 -- length and its title, and the next one starts after it.
 use Rattle.std.specs.Prelude.{ℕ, suc, ◌+◌, ◌-◌, ◌≤◌, ◌<◌, true, ◌≡◌, List, length}
 use Rattle.std.proofs.Common.{arith}
+use Rattle.archive_format.specs.declared.Edition.{Edition}
 use Rattle.archive_format.specs.Archive.{next_at, runs}
 use Rattle.archive_format.specs.Reading.{Ran, ran}
 use Rattle.archive_open.specs.declared.Archive.{Archive}
-use Rattle.archive_open.specs.Opened.{holds, held_run, held_fits}
+use Rattle.archive_open.specs.Opened.{Held, holds, held_run, held_fits}
 
 -- so many records are left from a place on, and run to the trailer
 pub record Walk (size : ℕ) (l : List ℕ) (left place : ℕ) : Type 0 where
@@ -14,15 +15,12 @@ pub record Walk (size : ℕ) (l : List ℕ) (left place : ℕ) : Type 0 where
   pub within : trailer ≤ length l
   pub run : runs size left l trailer place mark ≡ true
 
--- an archive that was read is walked from its first record
+-- what reads is walked from its first record
+pub held_walk : (e : Edition) (l : List ℕ) {count t last : ℕ} → Held e l count t last → Walk e.size l count 0
+held_walk e l {count} {t} h = record { trailer = t; mark = t; within = omega (arith, held_fits e l h); run = held_run e l h }
+
 pub walk : (a : Archive) → Walk a.edition.size a.bytes.now a.count 0
-walk a =
-    record {
-      trailer = a.trailer;
-      mark = a.trailer;
-      within = omega (arith, held_fits a.edition a.bytes.now (holds a));
-      run = held_run a.edition a.bytes.now (holds a);
-    }
+walk a = held_walk a.edition a.bytes.now (holds a)
 
 module _ {size : ℕ} {l : List ℕ} {left place : ℕ} (w : Walk size l left place) where
   first : (k : ℕ) → left ≡ suc k → Ran size k l w.trailer place w.mark
