@@ -1,5 +1,7 @@
 -- The print room's page: sixty lines of 72 bytes, each behind it a newline.
 use Rattle.std.specs.Prelude.{ℕ, ◌+◌, ◌-◌, ◌*◌, List, [], ◌∷◌, ◌++◌, length, replicate}
+use Rattle.buffer.specs.declared.Writer.{Writer}
+use Rattle.buffer.specs.Buffer.{Wrote}
 use Rattle.text.specs.Text.{blanks}
 use Rattle.text.specs.Words.{newline}
 
@@ -24,6 +26,10 @@ line t = t ++ line_end (length t)
 unfoldable pub lines : List (List ℕ) → List ℕ
 lines [] = []
 lines (t ∷ ts) = line t ++ lines ts
+
+-- a call of words, by where it may leave the writer: it writes x
+abbrev pub Words : (Writer → Type 0) → Writer → List ℕ → Type 0
+Words Left t x = (worded : Writer) → Left worded → Wrote t x worded
 
 -- so many blank lines
 abbrev pub blank_lines : ℕ → List ℕ

@@ -1,9 +1,10 @@
 // Lines of 72 bytes and pages of sixty lines in a lent buffer.
 #![tactic(auto, using(buffer::proofs::Pieces::put_append))]
 
-ghost use Rattle.std.specs.Prelude.{◌-◌, ◌≤◌};
+ghost use Rattle.std.specs.Prelude.{◌-◌, ℕ, List};
+ghost use Rattle.std.specs.Fn.{FnOnceReturnsAtMut};
 ghost use Rattle.buffer.specs.Buffer.{Wrote};
-ghost use Rattle.page.specs.Page.{blank_lines, line_end, page_lines};
+ghost use Rattle.page.specs.Page.{blank_lines, line, page_lines, Words};
 
 use buffer::Writer;
 
@@ -14,12 +15,17 @@ pub const PAGE_LINES: usize = 60;
 // The bytes of a page: its lines, and a newline behind each.
 pub const PAGE_ROOM: usize = PAGE_LINES * (LINE_WIDTH + 1);
 
-// Ends a line that began at `from`.
-pub fn end_line(text: &mut Writer, from: usize)
-    requires { from ≤ text.old.at }
-    ensures { Wrote text.old (line_end (text.old.at - from)) text.new }
+// A line: what the words write, and the blanks and the newline that end it.
+pub fn line<F: FnOnce(&mut Writer)>(text: &mut Writer, words: F)
+    requires { F.IsAlwaysCallable words }
+    ensures { (x : List ℕ) → Words (FnOnceReturnsAtMut F.FnOnce words text.old tt) text.old x → Wrote text.old (line x) text.new }
 {
-    text.put_run(b' ', LINE_WIDTH.saturating_sub(text.at - from));
+    let from = text.at;
+    words(text);
+    text.put_run(
+        b' ',
+        LINE_WIDTH.saturating_sub(text.at.saturating_sub(from)),
+    );
     text.put(b"\n");
 }
 
@@ -28,8 +34,7 @@ fn blank_lines(text: &mut Writer, n: usize)
     ensures { Wrote text.old (blank_lines n) text.new }
 {
     for _ in 0..n {
-        let from = text.at;
-        end_line(text, from);
+        line(text, |_| {});
     }
 }
 

@@ -12,7 +12,7 @@ ghost use Rattle.sheet_page.specs.SheetPage.{RunStands, record_page, refused_pag
 use balance_decision::Unworked;
 use buffer::Writer;
 use exit_figures::ExitFigures;
-use page::{end_line, end_page};
+use page::{end_page, line};
 use report_lines::{exit_words, record_words, refused_words};
 use text::append_columns;
 use working_outcome::Working;
@@ -34,17 +34,16 @@ const HEAD_LINES: usize = 8;
 fn record_line(text: &mut Writer, number: u32, cycle: u32, w: Working)
     ensures { Wrote text.old (line (record_words number cycle w.arrival w.rounds)) text.new }
 {
-    let from = text.at;
-    record_words(text, number, cycle, w.arrival, w.rounds);
-    end_line(text, from);
+    line(
+        text,
+        |text| record_words(text, number, cycle, w.arrival, w.rounds),
+    );
 }
 
 fn exit_line(text: &mut Writer, label: &[u8], f: ExitFigures)
     ensures { Wrote text.old (line (exit_words label.now f)) text.new }
 {
-    let from = text.at;
-    exit_words(text, label, f);
-    end_line(text, from);
+    line(text, |text| exit_words(text, label, f));
 }
 
 // A line of numbers in columns.
@@ -52,9 +51,7 @@ fn columns_line(text: &mut Writer, width: usize, unit: u32, numbers: &[u32])
     requires { 0 < unit }
     ensures { Wrote text.old (line (columns width unit numbers.now)) text.new }
 {
-    let from = text.at;
-    append_columns(text, width, unit, numbers);
-    end_line(text, from);
+    line(text, |text| append_columns(text, width, unit, numbers));
 }
 
 // The four pair flows of an entry.
@@ -113,9 +110,7 @@ pub fn worked_page(text: &mut Writer, number: u32, cycle: u32, w: Working, outpu
 pub fn refused_page(text: &mut Writer, number: u32, k: u32)
     ensures { Wrote text.old (refused_page number k) text.new }
 {
-    let from = text.at;
-    refused_words(text, number, k);
-    end_line(text, from);
+    line(text, |text| refused_words(text, number, k));
     end_page(text, 1);
 }
 
