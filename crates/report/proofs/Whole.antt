@@ -83,7 +83,7 @@ text_refused form l t e r {v} d was =
     let is : Err r ≡ text_of form l (length t) = fails BufferRoom r (leb (text_room form) (length t)) v (Ok (input_text form l)) (rw e at d) was in
     rw (sym is) (record { answer = refl; buffer = refl })
 
-text_short : (form : Form) (l t : List ℕ) {room : ℕ} → room ≡ text_room form → length t < room → Writes (text_of form l (length t)) t (Err BufferRoom) t
+pub text_short : (form : Form) (l t : List ℕ) {room : ℕ} → room ≡ text_room form → length t < room → Writes (text_of form l (length t)) t (Err BufferRoom) t
 unfolding need
 text_short form l t {room} e h = text_refused form l t e BufferRoom refl (rw (lt-leb (length t) room h) refl)
 
