@@ -85,7 +85,7 @@ text_refused form l t e r {v} d was =
 
 pub text_short : (form : Form) (l t : List ℕ) {room : ℕ} → room ≡ text_room form → length t < room → Writes (text_of form l (length t)) t (Err BufferRoom) t
 unfolding need
-text_short form l t {room} e h = text_refused form l t e BufferRoom refl (rw (lt-leb (length t) room h) refl)
+text_short form l t {room} e h = text_refused form l t e BufferRoom refl (rw (lt-leb room (length t) h) refl)
 
 -- one that has room holds the whole text, and what stood behind it
 pub text_whole : (form : Form) (l t : List ℕ) → Bytes l → {room : ℕ} → room ≡ text_room form → room ≤ length t →
