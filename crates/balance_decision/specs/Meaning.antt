@@ -2,9 +2,9 @@
 -- one that does not has the number 13, 14 or 15.
 -- Assumes nothing.
 use Rattle.std.specs.Prelude.{ℕ, ◌≤◌, Bool, true, false, [], ◌∷◌, map, ◌≡◌, refl, Ok, Err}
-use Rattle.std.proofs.Common.{arith, sym, ◌∙◌}
+use Rattle.std.proofs.Common.{arith, sym}
 use Rattle.refusal.specs.declared.Refusal.TheVariants.{NoVolume, Unserved}
-use Rattle.refusal.specs.Refusal.{Or, need, need_rest, ok_refused}
+use Rattle.refusal.specs.Refusal.{need, ok_refused}
 use Rattle.movements.specs.PerMovement.{Counts, Seeds}
 use Rattle.movements.specs.Movements.{flow_units}
 use Rattle.balance_flows.specs.Flows.{FlowTable}
@@ -19,7 +19,7 @@ use Rattle.balance_pairs.specs.Pairs.{pair_rows, rows_add}
 use Rattle.balance_decision.specs.declared.Decision.{Decision}
 use Rattle.balance_decision.specs.declared.Unworked.{Unworked}
 use Rattle.balance_decision.specs.declared.Unworked.TheVariants.{Refused, Unsettled}
-use Rattle.balance_decision.specs.Unworked.{unworked_number, work_on, work_on_ok}
+use Rattle.balance_decision.specs.Unworked.{unworked_number, work_on}
 use Rattle.balance_decision.specs.Decision.{by_settling, settled_to, decision_of}
 
 module _ (o : Counts) where
@@ -34,18 +34,17 @@ module _ (o : Counts) where
       rw is (record { cells = c; rows = refl }, refl)
   settled_cells (settling.Unsettled x) n c d e = ok_refused (sym e)
 
+  by_tests : (t v : Bool) (b : Balance) (d : Decision) → work_on (need NoVolume t (need Unserved v (Ok b))) (settled_to o) ≡ Ok d →
+      FromCells d × (d.rounds ≡ b.rounds)
+  unfolding need settled_to
+  by_tests false v b d e = ok_refused (sym e)
+  by_tests true false b d e = ok_refused (sym e)
+  by_tests true true b d e = settled_cells b.settling b.rounds b.cells d e
+
   -- a decision that works is that of the settling
-  of_settling : (exits : Counts) (s : Seeds) (d : Decision) → decision_of o exits s ≡ Ok d →
-      let b = balanced o exits s in FromCells d × (d.rounds ≡ b.rounds)
-  unfolding decision_of settled_to
-  of_settling exits s d e =
-      let w = work_on_ok _ _ d e in
-      let served = need_rest NoVolume _ _ w.0 w.1 in
-      let is : ◌≡◌ {A = Or Balance} (Ok (balanced o exits s)) (Ok w.0) = need_rest Unserved _ _ w.0 served in
-      let same : w.0 ≡ balanced o exits s = cc in
-      let b = w.0 in
-      let c = settled_cells b.settling b.rounds b.cells d w.2 in
-      (c.0, c.1 ∙ rw same)
+  of_settling : (exits : Counts) (s : Seeds) (d : Decision) → decision_of o exits s ≡ Ok d → FromCells d × (d.rounds ≡ (balanced o exits s).rounds)
+  unfolding decision_of
+  of_settling exits s = by_tests _ _ (balanced o exits s)
 
   pub from_cells : (exits : Counts) (s : Seeds) (d : Decision) → decision_of o exits s ≡ Ok d → FromCells d
   from_cells exits s d e = (of_settling exits s d e).0

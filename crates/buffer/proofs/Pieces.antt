@@ -4,8 +4,8 @@ use Rattle.std.proofs.Common.{arith, ap, sym, ◌∙◌, length-append, leb-true
 use Rattle.std.proofs.lemmas.List.Edits.{sets, sets-eq}
 use Rattle.std.proofs.Math.Seq.{length-sets}
 use Rattle.buffer.specs.declared.Writer.{Writer}
-use Rattle.buffer.specs.Buffer.{Cursor, cursor, cursor_of, put, next_place, Wrote, WroteAt}
-use Rattle.buffer.specs.Pieces.{sets_out, sets_append, Appending}
+use Rattle.buffer.specs.Buffer.{Cursor, cursor, put, next_place, Wrote, WroteAt}
+use Rattle.buffer.specs.Pieces.{sets_out, sets_append, AppendingAt, Appending}
 
 by_room : (l : List ℕ) (at i : ℕ) (vs : List ℕ) → at ≤ i → sets l (max at (min i (length l))) vs ≡ sets l i vs
 by_room l at i vs le = go (leb i (length l)) refl
@@ -30,55 +30,50 @@ pub put_nil : (b : List ℕ) (at : ℕ) → put (cursor b at) [] ≡ cursor b at
 unfolding put next_place
 put_nil b at = let e : max at (min (at + 0) (length b)) ≡ at = omega arith in rw e
 
--- two calls, one after the other
-infixl 5 ◌then◌
-pub ◌then◌ : {t t' t'' : Writer} {x y : List ℕ} → Wrote t x t' → Wrote t' y t'' → Wrote t (x ++ y) t''
-◌then◌ {x} {y} v w = record { lent = w.lent ∙ v.lent; is = w.is ∙ rw (v.is, put_append) }
+-- ---- of any list and place
 
--- a call keeps the buffer's length
-pub wrote_long : {t t' : Writer} {x : List ℕ} → Wrote t x t' → length t'.bytes.now ≡ length t.bytes.now
+-- two pieces, one after the other
+pub then_at : {b : List ℕ} {at : ℕ} {x b' : List ℕ} {p : ℕ} {y b'' : List ℕ} {q : ℕ} → WroteAt b at x b' p → WroteAt b' p y b'' q → WroteAt b at (x ++ y) b'' q
+then_at {b} {at} {x} {y} v w = record { is = w.is ∙ rw (v.is, put_append) }
+
+-- a piece keeps the buffer's length
+pub wrote_long : {b : List ℕ} {at : ℕ} {t b' : List ℕ} {p : ℕ} → WroteAt b at t b' p → length b' ≡ length b
 unfolding put
-wrote_long {t} {t'} {x} w =
-    let e : t'.bytes.now ≡ sets t.bytes.now t.at x = ap (λ (q : Cursor). q.buffer) w.is in
-    rw e (length-sets t.bytes.now t.at x)
+wrote_long {b} {at} {t} w = ap (λ (q : Cursor). length q.buffer) w.is ∙ length-sets b at t
 
 -- where the buffer is full nothing more is put, whatever it is
 put_full : (b : List ℕ) (p : ℕ) (piece : List ℕ) → length b ≤ p → put (cursor b p) piece ≡ cursor b p
 unfolding put next_place
 put_full b p piece h = let e : max p (min (p + length piece) (length b)) ≡ p = omega arith in rw (sets_out b p piece h, e)
 
-after_full : {t t' t'' : Writer} {x y : List ℕ} → Wrote t x t' → length t'.bytes.now ≤ t'.at → Wrote t' y t'' → (z : List ℕ) → Wrote t (x ++ z) t''
-after_full {t} {t'} {x} {y} u f v z =
-    let whole : put (cursor_of t) (x ++ z) ≡ cursor_of t' =
-    put_append (cursor_of t) x z ∙ ap (λ (q : Cursor). put q z) (sym u.is) ∙ put_full t'.bytes.now t'.at z f in
-    record { lent = v.lent ∙ u.lent; is = v.is ∙ put_full t'.bytes.now t'.at y f ∙ sym whole }
+after_full : {b : List ℕ} {at : ℕ} {x b' : List ℕ} {p : ℕ} {y b'' : List ℕ} {q : ℕ} → WroteAt b at x b' p → length b' ≤ p → WroteAt b' p y b'' q →
+    (z : List ℕ) → WroteAt b at (x ++ z) b'' q
+after_full {b} {at} {x} {b'} {p} {y} u f v z =
+    record { is = v.is ∙ put_full b' p y f ∙ sym (put_append (cursor b at) x z ∙ ap (λ (q : Cursor). put q z) (sym u.is) ∙ put_full b' p z f) }
 
 -- a piece whose end is chosen by how many places the rest of it took: with room those are its length, without room the end is not put
-pub ended_by : {t t' t'' : Writer} {x : List ℕ} (end : ℕ → List ℕ) → Wrote t x t' → Wrote t' (end (t'.at - t.at)) t'' → Wrote t (x ++ end (length x)) t''
+pub ended_by : {b : List ℕ} {at : ℕ} {x b' : List ℕ} {p : ℕ} {b'' : List ℕ} {q : ℕ} (end : ℕ → List ℕ) →
+    WroteAt b at x b' p → WroteAt b' p (end (p - at)) b'' q → WroteAt b at (x ++ end (length x)) b'' q
 unfolding put next_place
-ended_by {t} {t'} {t''} {x} end u v = go (leb (t.at + length x) (length t.bytes.now)) refl
+ended_by {b} {at} {x} {b'} {p} {b''} {q} end u v = go (leb (at + length x) (length b)) refl
   where
-    place : t'.at ≡ max t.at (min (t.at + length x) (length t.bytes.now))
+    place : p ≡ max at (min (at + length x) (length b))
     place = ap (λ (c : Cursor). c.at) u.is
 
-    go : (f : Bool) → leb (t.at + length x) (length t.bytes.now) ≡ f → Wrote t (x ++ end (length x)) t''
-    go true e = let n : t'.at - t.at ≡ length x = omega (arith, place, leb-true (t.at + length x) (length t.bytes.now) e) in u then (rw n at v)
-    go false e = after_full u (omega (arith, place, wrote_long u, leb-false (t.at + length x) (length t.bytes.now) e)) v _
+    go : (t : Bool) → leb (at + length x) (length b) ≡ t → WroteAt b at (x ++ end (length x)) b'' q
+    go true e = let n : p - at ≡ length x = omega (arith, place, leb-true (at + length x) (length b) e) in then_at u (rw n at v)
+    go false e = after_full u (omega (arith, place, wrote_long u, leb-false (at + length x) (length b) e)) v _
 
-pub appending_start : (t : Writer) (whole : List ℕ) → Appending t whole t whole
-appending_start t whole = record { lent = refl; long = refl; same = refl }
+pub start_at : (b : List ℕ) (at : ℕ) (whole : List ℕ) → AppendingAt b at whole b at whole
+start_at b at whole = record { long = refl; same = refl }
 
-module _ {t₀ t : Writer} {whole rest : List ℕ} (r : Appending t₀ whole t rest) where
+module _ {b₀ : List ℕ} {at : ℕ} {whole b : List ℕ} {p : ℕ} {rest : List ℕ} (r : AppendingAt b₀ at whole b p rest) where
   -- the next piece is the front of the rest
-  pub appending_turn : {piece : List ℕ} {t' : Writer} → Wrote t piece t' → (rest' : List ℕ) → rest ≡ piece ++ rest' → Appending t₀ whole t' rest'
-  appending_turn v rest' e = record { lent = v.lent ∙ r.lent; long = wrote_long v ∙ r.long; same = r.same ∙ rw (e, put_append, v.is) }
+  pub turn_at : {piece b' : List ℕ} {p' : ℕ} → WroteAt b p piece b' p' → (rest' : List ℕ) → rest ≡ piece ++ rest' → AppendingAt b₀ at whole b' p' rest'
+  turn_at v rest' e = record { long = wrote_long v ∙ r.long; same = r.same ∙ rw (e, put_append, v.is) }
 
-  pub appending_done : rest ≡ [] → Wrote t₀ whole t
-  appending_done e = record { lent = r.lent; is = sym (r.same ∙ rw e (put_nil t.bytes.now t.at)) }
-
--- a writer made at a place of a buffer: what it put is what stands there
-pub wrote_at : {t t' : Writer} {x : List ℕ} → Wrote t x t' → WroteAt t.bytes.now t.at x t'.bytes.now t'.at
-wrote_at w = record { is = w.is }
+  pub done_at : rest ≡ [] → WroteAt b₀ at whole b p
+  done_at e = record { is = sym (r.same ∙ rw e (put_nil b p)) }
 
 -- where the piece fits: what stands before it, the piece, and what stands after it
 pub wrote_fits : {b : List ℕ} {at : ℕ} {t b' : List ℕ} {p : ℕ} → WroteAt b at t b' p → at + length t ≤ length b
@@ -87,17 +82,34 @@ unfolding put next_place
 wrote_fits {b} {at} {t} w h = (ap (λ (q : Cursor). q.buffer) w.is ∙ sets-eq t b at h, ap (λ (q : Cursor). q.at) w.is ∙ omega arith)
 
 -- the next place does not lie before the piece
-pub wrote_on : {t t' : Writer} {x : List ℕ} → Wrote t x t' → t.at ≤ t'.at
+pub wrote_on : {b : List ℕ} {at : ℕ} {t b' : List ℕ} {p : ℕ} → WroteAt b at t b' p → at ≤ p
 unfolding put next_place
-wrote_on {t} {t'} {x} w =
-    let e : t'.at ≡ max t.at (min (t.at + length x) (length t.bytes.now)) = ap (λ (q : Cursor). q.at) w.is in
-    omega arith
+wrote_on {b} {at} {t} {b'} {p} w = let e : p ≡ max at (min (at + length t) (length b)) = ap (λ (q : Cursor). q.at) w.is in omega arith
 
 -- and lies within the buffer
 pub wrote_within : {b : List ℕ} {at : ℕ} {t b' : List ℕ} {p : ℕ} → WroteAt b at t b' p → at ≤ length b → p ≤ length b'
 unfolding put next_place
 wrote_within {b} {at} {t} {b'} {p} w h =
     let e : p ≡ max at (min (at + length t) (length b)) = ap (λ (q : Cursor). q.at) w.is in
-    let same : b' ≡ sets b at t = ap (λ (q : Cursor). q.buffer) w.is in
-    let long : length b' ≡ length b = rw same (length-sets b at t) in
-    omega arith
+    omega (arith, wrote_long w)
+
+-- ---- by a writer
+
+-- what it put is what stands there
+pub wrote_at : {t t' : Writer} {x : List ℕ} → Wrote t x t' → WroteAt t.bytes.now t.at x t'.bytes.now t'.at
+wrote_at w = record { is = w.is }
+
+-- two calls, one after the other
+infixl 5 ◌then◌
+pub ◌then◌ : {t t' t'' : Writer} {x y : List ℕ} → Wrote t x t' → Wrote t' y t'' → Wrote t (x ++ y) t''
+◌then◌ v w = record { lent = w.lent ∙ v.lent; is = (then_at (wrote_at v) (wrote_at w)).is }
+
+pub appending_start : (t : Writer) (whole : List ℕ) → Appending t whole t whole
+appending_start t whole = record { lent = refl; is = start_at t.bytes.now t.at whole }
+
+module _ {t₀ t : Writer} {whole rest : List ℕ} (r : Appending t₀ whole t rest) where
+  pub appending_turn : {piece : List ℕ} {t' : Writer} → Wrote t piece t' → (rest' : List ℕ) → rest ≡ piece ++ rest' → Appending t₀ whole t' rest'
+  appending_turn v rest' e = record { lent = v.lent ∙ r.lent; is = turn_at r.is (wrote_at v) rest' e }
+
+  pub appending_done : rest ≡ [] → Wrote t₀ whole t
+  appending_done e = record { lent = r.lent; is = (done_at r.is e).is }

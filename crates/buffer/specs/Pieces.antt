@@ -4,7 +4,7 @@ use Rattle.std.proofs.Common.{arith}
 use Rattle.std.proofs.lemmas.List.Edits.{sets}
 use Rattle.std.proofs.Math.Seq.{set_out}
 use Rattle.buffer.specs.declared.Writer.{Writer}
-use Rattle.buffer.specs.Buffer.{cursor_of, put}
+use Rattle.buffer.specs.Buffer.{cursor, put}
 
 -- past the end nothing is stored
 pub sets_out : (l : List ℕ) (i : ℕ) (vs : List ℕ) → length l ≤ i → sets l i vs ≡ l
@@ -18,7 +18,11 @@ sets_append l i (x ∷ a) b =
     rw e (sets_append (set l i x) (suc i) a b)
 
 -- a loop of pieces: those put so far and the rest are the whole
+pub record AppendingAt (b₀ : List ℕ) (at : ℕ) (whole b : List ℕ) (p : ℕ) (rest : List ℕ) : Type 0 where
+  pub long : length b ≡ length b₀
+  pub same : put (cursor b₀ at) whole ≡ put (cursor b p) rest
+
+-- by a writer, whose buffer stays the one that it was lent
 pub record Appending (t₀ : Writer) (whole : List ℕ) (t : Writer) (rest : List ℕ) : Type 0 where
   pub lent : t.bytes.ghost_name ≡ t₀.bytes.ghost_name
-  pub long : length t.bytes.now ≡ length t₀.bytes.now
-  pub same : put (cursor_of t₀) whole ≡ put (cursor_of t) rest
+  pub is : AppendingAt t₀.bytes.now t₀.at whole t.bytes.now t.at rest

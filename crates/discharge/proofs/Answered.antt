@@ -1,7 +1,9 @@
 -- Laws of specs/Discharge.antt: of every accepted record each entry's run in the profile is its discharge, at the volume answered; which refusals there are.
-use Rattle.std.specs.Prelude.{ℕ, ◌≡◌, refl, List, length, Ok, Err}
-use Rattle.std.proofs.Common.{sym, ◌∙◌}
-use Rattle.refusal.specs.Refusal.{Or, ok_refused}
+use Rattle.std.specs.Prelude.{ℕ, zero, suc, ◌<◌, ◌≡◌, refl, List, length, Ok, Err}
+use Rattle.std.proofs.Common.{arith, sym, ◌∙◌}
+use Rattle.refusal.specs.declared.Refusal.{Refusal}
+use Rattle.refusal.specs.Refusal.{number, Or, ok_refused}
+use Rattle.refusal.specs.Numbers.{never_0}
 use Rattle.movements.specs.declared.Signalised.{Signalised}
 use Rattle.segment.specs.declared.Segment.{Segment}
 use Rattle.segment.specs.Segment.{segment_of}
@@ -37,3 +39,11 @@ entries_discharge l p r p' er ep o e = go (accept_of l (length p)) refl er ep
 pub called : (l p : List ℕ) (r : Or (Signalised ℕ)) (p' : List ℕ) → r ≡ volumes_after (accept_of l (length p)) → p' ≡ profile_after (accept_of l (length p)) p →
     Calls l p r p'
 called l p r p' er ep = record { answer = er; profile = ep; entries = entries_discharge l p r p' er ep }
+
+-- no refusal has the number 0
+pub refused_above : (l : List ℕ) (room : ℕ) (r : Refusal) → volumes_after (accept_of l room) ≡ Err r → 0 < number r
+refused_above l room r e = go (number r) refl
+  where
+    go : (n : ℕ) → number r ≡ n → 0 < n
+    go zero z = absurd (never_0 r z)
+    go (suc n) z = omega arith

@@ -1,6 +1,7 @@
 -- Laws of specs/Whole.antt: How long the text gets, and the room that holds all of it.
-use Rattle.std.specs.Prelude.{ℕ, zero, suc, ◌+◌, ◌*◌, ◌≤◌, Bool, true, false, cond, ◌≡◌, refl, List, leb, ltb, length, take, drop, Ok, Err}
+use Rattle.std.specs.Prelude.{ℕ, zero, suc, ◌+◌, ◌*◌, ◌≤◌, ◌<◌, Bool, true, false, cond, ◌≡◌, refl, List, leb, ltb, length, take, drop, Ok, Err}
 use Rattle.std.proofs.Common.{arith, sym, length-append, take_at, get_or-drop, le-leb}
+use Rattle.std.proofs.lemmas.Bool.{lt-leb}
 use Rattle.refusal.specs.declared.Refusal.{Refusal}
 use Rattle.refusal.specs.declared.Refusal.TheVariants.{BufferRoom}
 use Rattle.refusal.specs.Refusal.{Or, need, fails}
@@ -76,11 +77,15 @@ input_text_lem form l h = go (ltb input_limit (length l))
 -- ---- the calls
 
 -- a buffer that is too short is refused, and stays
-pub text_short : (form : Form) (l t : List ℕ) {room : ℕ} → room ≡ text_room form → (r : Refusal) {v : Or (Unit {0})} →
+pub text_refused : (form : Form) (l t : List ℕ) {room : ℕ} → room ≡ text_room form → (r : Refusal) {v : Or (Unit {0})} →
     v ≡ need BufferRoom (leb room (length t)) (Ok tt) → v ≡ Err r → Writes (text_of form l (length t)) t (Err r) t
-text_short form l t e r {v} d was =
+text_refused form l t e r {v} d was =
     let is : Err r ≡ text_of form l (length t) = fails BufferRoom r (leb (text_room form) (length t)) v (Ok (input_text form l)) (rw e at d) was in
     rw (sym is) (record { answer = refl; buffer = refl })
+
+pub text_short : (form : Form) (l t : List ℕ) {room : ℕ} → room ≡ text_room form → length t < room → Writes (text_of form l (length t)) t (Err BufferRoom) t
+unfolding need
+text_short form l t {room} e h = text_refused form l t e BufferRoom refl (rw (lt-leb room (length t) h) refl)
 
 -- one that has room holds the whole text, and what stood behind it
 pub text_whole : (form : Form) (l t : List ℕ) → Bytes l → {room : ℕ} → room ≡ text_room form → room ≤ length t →

@@ -1,3 +1,4 @@
 pub mod Deciding
 pub mod Decided
 pub mod Ways
+pub mod Working
