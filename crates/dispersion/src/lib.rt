@@ -74,7 +74,7 @@ impl Platoon {
         state
     }
 
-    // Cycle k, from 0, into the profile whose turn it is: two are lent, and the cycles alternate between them.
+    // Cycle k, from 0, into the profile whose turn it is: the cycles alternate between the two that paper 01 lends.
     fn work_cycle(
         self,
         discharge: &[u32],
@@ -114,7 +114,8 @@ fn cycles_needed(
 
 // So many cycles from an empty segment, level and carry running on: the first, third, .. into the
 // first profile, the second, fourth, .. into the second. It ends once the segment rests, since the
-// profiles then hold what all the cycles leave.
+// profiles then hold what all the cycles leave. They are lent apart, as paper 01 has them: `last_cycle` keeps a part of one,
+// which could not be lent from a struct of both.
 pub fn alternate(
     running: u32,
     discharge: &[u32],

@@ -53,7 +53,8 @@ impl<'a> Run<'a> {
         self.steps.iter().map(|flow| u64::from(*flow)).sum()
     }
 
-    // A `for`, since a closure under `enumerate` is not told that the step's number is below the length.
+    // What arrives in the green's steps. A `for`: each number that it reads is known to be of 32 bits, which bounds the sum; the sum of a
+    // chain of `enumerate` and `filter` has no bound.
     fn green_flow(self, timing: Timing) -> u64
         requires { timing.cycle ≡ length self.steps.now }
         ensures { (result ≡ green_flow timing.green self.entry.steps.now) × (result < total_bound) }

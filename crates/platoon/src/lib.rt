@@ -44,7 +44,8 @@ fn arrived(gone: u32, arriving: u64, g: u32) -> u64
     u64::from(gone + 1) * arriving / u64::from(g)
 }
 
-// Serves the queue step by step of the green, into an empty cycle.
+// Serves the queue step by step of the green, into an empty cycle. A `for`: what waits and what has passed go on from step to step, and
+// a step's place turns with the cycle.
 fn release(timing: Timing, queue: Queue, run: &mut [u32])
     requires run_is_cycle { timing.cycle ≡ length run.old }
     requires waiting_le_cycle_bound { (queue.waiting ≤ cycle_bound) × (queue.arriving ≤ cycle_bound) }

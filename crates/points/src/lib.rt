@@ -17,7 +17,7 @@ pub struct Point {
     pub headway: u32,
 }
 
-// The first so many of the places are given; the others are not looked at.
+// The first so many of the places are given; the others are not looked at. A count beside its places, for the C interface.
 #[repr(C)]
 #[derive(Clone, Copy)]
 pub struct Points {
