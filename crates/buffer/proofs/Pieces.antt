@@ -4,7 +4,7 @@ use Rattle.std.proofs.Common.{arith, ap, sym, ◌∙◌, length-append, leb-true
 use Rattle.std.proofs.lemmas.List.Edits.{sets, sets-eq}
 use Rattle.std.proofs.Math.Seq.{length-sets}
 use Rattle.buffer.specs.declared.Writer.{Writer}
-use Rattle.buffer.specs.Buffer.{Cursor, cursor, cursor_of, put, next_place, Wrote, WroteAt}
+use Rattle.buffer.specs.Buffer.{Cursor, cursor, put, next_place, Wrote, WroteAt}
 use Rattle.buffer.specs.Pieces.{sets_out, sets_append, Appending}
 
 by_room : (l : List ℕ) (at i : ℕ) (vs : List ℕ) → at ≤ i → sets l (max at (min i (length l))) vs ≡ sets l i vs
@@ -30,48 +30,42 @@ pub put_nil : (b : List ℕ) (at : ℕ) → put (cursor b at) [] ≡ cursor b at
 unfolding put next_place
 put_nil b at = let e : max at (min (at + 0) (length b)) ≡ at = omega arith in rw e
 
+-- pieces one after another, the last of them empty
+pub ruleset pieces = (put_append, put_nil)
+
 -- two calls, one after the other
 infixl 5 ◌then◌
 pub ◌then◌ : {t t' t'' : Writer} {x y : List ℕ} → Wrote t x t' → Wrote t' y t'' → Wrote t (x ++ y) t''
 ◌then◌ {x} {y} v w = record { lent = w.lent ∙ v.lent; is = w.is ∙ rw (v.is, put_append) }
 
--- a call keeps the buffer's length
-pub wrote_long : {t t' : Writer} {x : List ℕ} → Wrote t x t' → length t'.bytes.now ≡ length t.bytes.now
+-- a piece keeps the buffer's length
+put_long : (c : Cursor) (piece : List ℕ) → length (put c piece).buffer ≡ length c.buffer
 unfolding put
-wrote_long {t} {t'} {x} w =
-    let e : t'.bytes.now ≡ sets t.bytes.now t.at x = ap (λ (q : Cursor). q.buffer) w.is in
-    rw e (length-sets t.bytes.now t.at x)
+put_long c piece = length-sets c.buffer c.at piece
 
 -- where the buffer is full nothing more is put, whatever it is
-put_full : (b : List ℕ) (p : ℕ) (piece : List ℕ) → length b ≤ p → put (cursor b p) piece ≡ cursor b p
+put_full : (c : Cursor) (piece : List ℕ) → length c.buffer ≤ c.at → put c piece ≡ c
 unfolding put next_place
-put_full b p piece h = let e : max p (min (p + length piece) (length b)) ≡ p = omega arith in rw (sets_out b p piece h, e)
-
-after_full : {t t' t'' : Writer} {x y : List ℕ} → Wrote t x t' → length t'.bytes.now ≤ t'.at → Wrote t' y t'' → (z : List ℕ) → Wrote t (x ++ z) t''
-after_full {t} {t'} {x} {y} u f v z =
-    let whole : put (cursor_of t) (x ++ z) ≡ cursor_of t' =
-    put_append (cursor_of t) x z ∙ ap (λ (q : Cursor). put q z) (sym u.is) ∙ put_full t'.bytes.now t'.at z f in
-    record { lent = v.lent ∙ u.lent; is = v.is ∙ put_full t'.bytes.now t'.at y f ∙ sym whole }
+put_full c piece h = let e : max c.at (min (c.at + length piece) (length c.buffer)) ≡ c.at = omega arith in rw (sets_out c.buffer c.at piece h, e)
 
 -- a piece whose end is chosen by how many places the rest of it took: with room those are its length, without room the end is not put
-pub ended_by : {t t' t'' : Writer} {x : List ℕ} (end : ℕ → List ℕ) → Wrote t x t' → Wrote t' (end (t'.at - t.at)) t'' → Wrote t (x ++ end (length x)) t''
+pub put_ended : (end : ℕ → List ℕ) (c : Cursor) (x : List ℕ) → put c (x ++ end (length x)) ≡ put (put c x) (end ((put c x).at - c.at))
 unfolding put next_place
-ended_by {t} {t'} {t''} {x} end u v = go (leb (t.at + length x) (length t.bytes.now)) refl
+put_ended end c x = put_append c x (end (length x)) ∙ go (leb (c.at + length x) (length c.buffer)) refl
   where
-    place : t'.at ≡ max t.at (min (t.at + length x) (length t.bytes.now))
-    place = ap (λ (c : Cursor). c.at) u.is
-
-    go : (f : Bool) → leb (t.at + length x) (length t.bytes.now) ≡ f → Wrote t (x ++ end (length x)) t''
-    go true e = let n : t'.at - t.at ≡ length x = omega (arith, place, leb-true (t.at + length x) (length t.bytes.now) e) in u then (rw n at v)
-    go false e = after_full u (omega (arith, place, wrote_long u, leb-false (t.at + length x) (length t.bytes.now) e)) v _
+    go : (f : Bool) → leb (c.at + length x) (length c.buffer) ≡ f → put (put c x) (end (length x)) ≡ put (put c x) (end ((put c x).at - c.at))
+    go true e = let n : (put c x).at - c.at ≡ length x = omega (arith, leb-true (c.at + length x) (length c.buffer) e) in rw n
+    go false e =
+        let full : length (put c x).buffer ≤ (put c x).at = omega (arith, put_long c x, leb-false (c.at + length x) (length c.buffer) e) in
+        put_full (put c x) _ full ∙ sym (put_full (put c x) _ full)
 
 pub appending_start : (t : Writer) (whole : List ℕ) → Appending t whole t whole
-appending_start t whole = record { lent = refl; long = refl; same = refl }
+appending_start t whole = record { lent = refl; same = refl }
 
 module _ {t₀ t : Writer} {whole rest : List ℕ} (r : Appending t₀ whole t rest) where
   -- the next piece is the front of the rest
   pub appending_turn : {piece : List ℕ} {t' : Writer} → Wrote t piece t' → (rest' : List ℕ) → rest ≡ piece ++ rest' → Appending t₀ whole t' rest'
-  appending_turn v rest' e = record { lent = v.lent ∙ r.lent; long = wrote_long v ∙ r.long; same = r.same ∙ rw (e, put_append, v.is) }
+  appending_turn v rest' e = record { lent = v.lent ∙ r.lent; same = r.same ∙ rw (e, put_append, v.is) }
 
   pub appending_done : rest ≡ [] → Wrote t₀ whole t
   appending_done e = record { lent = r.lent; is = sym (r.same ∙ rw e (put_nil t.bytes.now t.at)) }
@@ -86,14 +80,7 @@ pub wrote_fits : {b : List ℕ} {at : ℕ} {t b' : List ℕ} {p : ℕ} → Wrote
 unfolding put next_place
 wrote_fits {b} {at} {t} w h = (ap (λ (q : Cursor). q.buffer) w.is ∙ sets-eq t b at h, ap (λ (q : Cursor). q.at) w.is ∙ omega arith)
 
--- the next place does not lie before the piece
-pub wrote_on : {t t' : Writer} {x : List ℕ} → Wrote t x t' → t.at ≤ t'.at
-unfolding put next_place
-wrote_on {t} {t'} {x} w =
-    let e : t'.at ≡ max t.at (min (t.at + length x) (length t.bytes.now)) = ap (λ (q : Cursor). q.at) w.is in
-    omega arith
-
--- and lies within the buffer
+-- the next place lies within the buffer
 pub wrote_within : {b : List ℕ} {at : ℕ} {t b' : List ℕ} {p : ℕ} → WroteAt b at t b' p → at ≤ length b → p ≤ length b'
 unfolding put next_place
 wrote_within {b} {at} {t} {b'} {p} w h =

@@ -20,5 +20,4 @@ sets_append l i (x ∷ a) b =
 -- a loop of pieces: those put so far and the rest are the whole
 pub record Appending (t₀ : Writer) (whole : List ℕ) (t : Writer) (rest : List ℕ) : Type 0 where
   pub lent : t.bytes.ghost_name ≡ t₀.bytes.ghost_name
-  pub long : length t.bytes.now ≡ length t₀.bytes.now
   pub same : put (cursor_of t₀) whole ≡ put (cursor_of t) rest

@@ -1,14 +1,19 @@
 -- Laws of lines: one ended by the places that its text took, and lines one after another.
 use Rattle.std.specs.Prelude.{ℕ, ◌-◌, ◌≡◌, refl, List, [], ◌∷◌, ◌++◌}
-use Rattle.std.proofs.Common.{ap, append_assoc, append-nil}
+use Rattle.std.proofs.Common.{ap, sym, ◌∙◌, append_assoc, append-nil}
 use Rattle.buffer.specs.declared.Writer.{Writer}
-use Rattle.buffer.specs.Buffer.{Wrote}
-use Rattle.buffer.proofs.Pieces.{ended_by}
+use Rattle.buffer.specs.Buffer.{Cursor, cursor_of, put, Wrote}
+use Rattle.buffer.proofs.Pieces.{put_append, put_ended}
 use Rattle.page.specs.Page.{line, line_end, lines}
 
-pub line_ended : {t t' t'' : Writer} {x : List ℕ} → Wrote t x t' → Wrote t' (line_end (t'.at - t.at)) t'' → Wrote t (line x) t''
+pub put_line : (c : Cursor) (x : List ℕ) → put c (line x) ≡ put (put c x) (line_end ((put c x).at - c.at))
 unfolding line
-line_ended u v = ended_by line_end u v
+put_line c x = put_ended line_end c x
+
+pub line_ended : {t t' t'' : Writer} {x : List ℕ} → Wrote t x t' → Wrote t' (line_end (t'.at - t.at)) t'' → Wrote t (line x) t''
+line_ended {t} {t'} {x} u v =
+    let took : t'.at ≡ (put (cursor_of t) x).at = ap (λ (c : Cursor). c.at) u.is in
+    record { lent = v.lent ∙ u.lent; is = v.is ∙ rw (u.is, took) (sym (put_line (cursor_of t) x)) }
 
 pub lines_append : (ts us : List (List ℕ)) → lines (ts ++ us) ≡ lines ts ++ lines us
 unfolding lines
@@ -18,3 +23,6 @@ lines_append (t ∷ ts) us = rw append_assoc (ap (λ (l : List ℕ). line t ++ l
 pub line_alone : (t : List ℕ) → lines (t ∷ []) ≡ line t
 unfolding lines
 line_alone t = append-nil (line t)
+
+-- a line alone, and what follows it
+pub ruleset line_then = (put_append, put_line, line_alone)

@@ -1,7 +1,7 @@
 // Lines of 72 bytes and pages of sixty lines in a lent buffer.
 #![tactic(auto, using(buffer::proofs::Pieces::put_append))]
 
-ghost use Rattle.std.specs.Prelude.{◌-◌, ◌≤◌};
+ghost use Rattle.std.specs.Prelude.{◌-◌};
 ghost use Rattle.buffer.specs.Buffer.{Wrote};
 ghost use Rattle.page.specs.Page.{blank_lines, line_end, page_lines};
 
@@ -16,10 +16,10 @@ pub const PAGE_ROOM: usize = PAGE_LINES * (LINE_WIDTH + 1);
 
 // Ends a line that began at `from`.
 pub fn end_line(text: &mut Writer, from: usize)
-    requires { from ≤ text.old.at }
     ensures { Wrote text.old (line_end (text.old.at - from)) text.new }
 {
-    text.put_run(b' ', LINE_WIDTH.saturating_sub(text.at - from));
+    let took = text.at.saturating_sub(from);
+    text.put_run(b' ', LINE_WIDTH.saturating_sub(took));
     text.put(b"\n");
 }
 

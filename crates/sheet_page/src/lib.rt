@@ -1,4 +1,5 @@
 // The exam sheet of one record on a page, put into a lent buffer: the record's line, its pair flows, its exits and the through run.
+// Number and cycle stay two plain numbers: each definition of a line takes them apart.
 #![tactic(auto)]
 
 ghost use Rattle.std.specs.Prelude.{◌+◌, ◌≤◌, ◌<◌, length};
@@ -31,6 +32,7 @@ const ROW_STEPS: usize = 10;
 // The lines above the run: the record's, four of pair flows, three of exits.
 const HEAD_LINES: usize = 8;
 
+#[tactic(auto, using(page::specs::Laws::put_line))]
 fn record_line(text: &mut Writer, number: u32, cycle: u32, w: Working)
     ensures { Wrote text.old (line (record_words number cycle w.arrival w.rounds)) text.new }
 {
@@ -39,6 +41,7 @@ fn record_line(text: &mut Writer, number: u32, cycle: u32, w: Working)
     end_line(text, from);
 }
 
+#[tactic(auto, using(page::specs::Laws::put_line))]
 fn exit_line(text: &mut Writer, label: &[u8], f: ExitFigures)
     ensures { Wrote text.old (line (exit_words label.now f)) text.new }
 {
@@ -48,6 +51,7 @@ fn exit_line(text: &mut Writer, label: &[u8], f: ExitFigures)
 }
 
 // A line of numbers in columns.
+#[tactic(auto, using(page::specs::Laws::put_line))]
 fn columns_line(text: &mut Writer, width: usize, unit: u32, numbers: &[u32])
     requires { 0 < unit }
     ensures { Wrote text.old (line (columns width unit numbers.now)) text.new }
@@ -64,6 +68,7 @@ fn pair_line(text: &mut Writer, row: [u32; 4])
     columns_line(text, PAIR_WIDTH, PAIR_UNIT, &row);
 }
 
+#[tactic(auto, using(buffer::proofs::Pieces::pieces), unfolding(page::specs::Page::lines))]
 fn pair_lines(text: &mut Writer, rows: [[u32; 4]; 4])
     ensures { Wrote text.old (lines (pair_lines rows)) text.new }
 {
@@ -99,6 +104,7 @@ fn head_lines(text: &mut Writer, number: u32, cycle: u32, w: Working)
 }
 
 // The page of a record that has worked.
+#[tactic(auto, using(crate::proofs::Lines::page_done))]
 pub fn worked_page(text: &mut Writer, number: u32, cycle: u32, w: Working, output: &[u32])
     requires { cycle + cycle ≤ length output.now }
     ensures { Wrote text.old (worked_page number cycle w output.now) text.new }
@@ -110,6 +116,7 @@ pub fn worked_page(text: &mut Writer, number: u32, cycle: u32, w: Working, outpu
 }
 
 // The page of a refused record: its line, and blanks.
+#[tactic(auto, using(page::specs::Laws::line_then), unfolding(crate::specs::SheetPage::refused_page, page::specs::Page::page))]
 pub fn refused_page(text: &mut Writer, number: u32, k: u32)
     ensures { Wrote text.old (refused_page number k) text.new }
 {
