@@ -1,39 +1,36 @@
--- The calls' answers on an archive that reads.
-use Rattle.std.specs.Prelude.{ℕ, ◌+◌, ◌*◌, ◌≤◌, ◌≡◌, refl, Bool, true, false, ltb, List, length, Ok}
-use Rattle.std.proofs.Common.{arith, sym, ltb-true, ltb-false}
+-- What an archive that reads says of the calls' answers.
+use Rattle.std.specs.Prelude.{ℕ, ◌+◌, ◌*◌, ◌≤◌, ◌<◌, ◌≡◌, refl, Bool, true, false, ltb, List, length, Ok}
+use Rattle.std.proofs.Common.{arith, ltb-true, ltb-false}
 use Rattle.refusal.specs.declared.Refusal.TheVariants.{Record}
 use Rattle.refusal.specs.Refusal.{need}
 use Rattle.octets.specs.Octets.{word2}
 use Rattle.archive_format.specs.declared.Edition.{Edition}
-use Rattle.archive_format.specs.Archive.{filed_from, count_of, place_in, place_of, find_in, find_of}
+use Rattle.archive_format.specs.Archive.{filed_from, place_in, find_of}
 use Rattle.archive_format.specs.Reading.{filed_length}
 use Rattle.archive_format.specs.Finding.{place_at, place_beyond}
+use Rattle.archive_format.proofs.Finding.{find_within}
 use Rattle.archive_open.specs.declared.Archive.{Archive}
-use Rattle.archive_open.specs.Opened.{Opens, Held, held, held_run, held_fits, held_filed}
+use Rattle.archive_open.specs.Opened.{holds, held_run, held_fits}
 
-module _ {e : Edition} {l : List ℕ} (a : Archive) (o : Opens e l (Ok a)) where
-  opened : Held e l a.count a.trailer a.last
-  opened = held a o
+-- the places lie in the trailer
+pub fits : (a : Archive) → a.trailer + 2 * a.count + 6 ≡ length a.bytes.now
+fits a = held_fits a.edition a.bytes.now (holds a)
 
-  pub counted : Ok a.count ≡ count_of e l
-  unfolding count_of
-  counted = sym (rw (held_filed e l opened, filed_length e.size a.count l 0))
+-- an index below the count has the place that the trailer tells
+pub placed : (a : Archive) (i : ℕ) →
+    place_in a.edition.size 0 (filed_from a.edition.size a.count a.bytes.now 0) i ≡ need Record (ltb i a.count) (Ok (word2 a.bytes.now (a.trailer + 2 * i)))
+unfolding need
+placed a i = go (ltb i a.count) refl
+  where
+    go : (b : Bool) → ltb i a.count ≡ b →
+        place_in a.edition.size 0 (filed_from a.edition.size a.count a.bytes.now 0) i ≡ need Record b (Ok (word2 a.bytes.now (a.trailer + 2 * i)))
+    go true b = place_at _ _ _ a.trailer 0 a.trailer i (omega (arith, fits a)) (held_run _ _ (holds a)) (ltb-true _ _ b)
+    go false b =
+        let beyond : a.count ≤ i = ltb-false _ _ b in
+        place_beyond _ 0 (filed_from a.edition.size a.count a.bytes.now 0) i (rw filed_length beyond)
 
-  -- the places lie in the trailer
-  pub fits : a.trailer + 2 * a.count + 6 ≡ length l
-  fits = held_fits e l opened
+pub ruleset placing = (fits, placed)
 
-  -- an index below the count has the place that the trailer tells
-  pub placed : (i : ℕ) → place_of e l i ≡ need Record (ltb i a.count) (Ok (word2 l (a.trailer + 2 * i)))
-  unfolding place_of need
-  placed i = rw (held_filed e l opened) (go (ltb i a.count) refl)
-    where
-      go : (b : Bool) → ltb i a.count ≡ b → place_in e.size 0 (filed_from e.size a.count l 0) i ≡ need Record b (Ok (word2 l (a.trailer + 2 * i)))
-      go true b = place_at e.size a.count l a.trailer 0 a.trailer i (omega (arith, fits)) (held_run e l opened) (ltb-true _ _ b)
-      go false b =
-          let beyond : a.count ≤ i = ltb-false _ _ b in
-          place_beyond e.size 0 (filed_from e.size a.count l 0) i (rw (filed_length e.size a.count l 0) beyond)
-
-  pub found : (n : ℕ) → find_in a.edition.size 0 (filed_from a.edition.size a.count a.bytes.now 0) n ≡ find_of e l n
-  unfolding find_of
-  found n = rw (o.0, o.1, held_filed e l opened)
+-- a record found lies in the archive, with the byte that holds its title's length
+pub within : (e : Edition) (l : List ℕ) (n p : ℕ) → find_of e l n ≡ Ok p → p + e.size < length l
+within e l n p found = omega (arith, find_within e l n p found)

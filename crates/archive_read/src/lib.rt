@@ -9,7 +9,7 @@ use archive_format::{SizedEdition, TitlePart, first_edition};
 use archive_open::{Archive, place_at};
 use refusal::{Refusal, need};
 
-#[tactic(auto, unfolding(archive_format::specs::Archive::count_of))]
+#[tactic(auto, unfolding(archive_format::specs::Archive::count_of), using(archive_format::specs::Reading::filed_length))]
 fn count_in(e: SizedEdition, s: &[u8]) -> Result<usize, Refusal>
     ensures { result ≡ count_of e.edition s.now }
 {
@@ -17,7 +17,7 @@ fn count_in(e: SizedEdition, s: &[u8]) -> Result<usize, Refusal>
     Ok(archive.count)
 }
 
-#[tactic(auto, unfolding(archive_format::specs::Archive::place_of, refusal::specs::Refusal::need))]
+#[tactic(auto, unfolding(archive_format::specs::Archive::place_of, refusal::specs::Refusal::need), using(crate::proofs::Answers::placing))]
 fn place_in(e: SizedEdition, s: &[u8], i: usize) -> Result<usize, Refusal>
     ensures { result ≡ place_of e.edition s.now i }
 {
@@ -26,7 +26,7 @@ fn place_in(e: SizedEdition, s: &[u8], i: usize) -> Result<usize, Refusal>
     Ok(place_at(s, archive.trailer + 2 * i))
 }
 
-#[tactic(auto, unfolding(archive_format::specs::Archive::find_of))]
+#[tactic(auto, unfolding(archive_format::specs::Archive::find_of), using(archive_open::specs::Walking::walk))]
 fn find_in(e: SizedEdition, s: &[u8], number: u32) -> Result<usize, Refusal>
     ensures { result ≡ find_of e.edition s.now number }
 {
@@ -34,7 +34,7 @@ fn find_in(e: SizedEdition, s: &[u8], number: u32) -> Result<usize, Refusal>
     archive_open::seek(archive.edition.size, archive.bytes, archive.count, number)
 }
 
-#[tactic(auto, unfolding(archive_format::specs::Archive::title_part_of))]
+#[tactic(auto, unfolding(archive_format::specs::Archive::title_part_of), using(crate::proofs::Answers::within))]
 fn title_part_in(e: SizedEdition, s: &[u8], number: u32) -> Result<TitlePart, Refusal>
     ensures { result ≡ title_part_of e.edition s.now number }
 {
@@ -52,7 +52,8 @@ pub fn count(archive: &[u8]) -> Result<usize, Refusal>
     count_in(first_edition(), archive)
 }
 
-// The place of the record with an index from 0; 6 where there is none.
+// The place of the record with an index from 0; 6 where there is none. This call and the two after it are one line each over the call
+// of any edition, with a definition of its own.
 pub fn place(archive: &[u8], i: usize) -> Result<usize, Refusal>
     ensures { result ≡ place_of first_edition archive.now i }
 {
@@ -74,7 +75,7 @@ pub fn title_part(archive: &[u8], number: u32) -> Result<TitlePart, Refusal>
 }
 
 // The title of the record with a number: the part of the archive that `title_part` answers, empty where it refuses.
-#[tactic(auto, unfolding(archive_format::specs::Archive::title_of))]
+#[tactic(auto, unfolding(archive_format::specs::Archive::title_of), using(archive_format::proofs::Finding::part_within))]
 pub fn title<'a>(archive: &'a [u8], number: u32) -> &'a [u8]
     ensures { result.now ≡ title_of first_edition archive.now number }
 {

@@ -1,5 +1,6 @@
 // Writing an archive with one record more into a lent buffer, part by part.
-// A lower layer's function: `grow` asks of its caller that the bytes fit.
+// A lower layer's function: `grow` asks of its caller that the bytes fit. It takes the parts of an archive one by one, since it knows
+// the format alone: `Archive`, one that was read, is the reader's.
 #![tactic(auto)]
 
 ghost use Rattle.std.specs.Prelude.{◌≡◌, ◌<◌, length};

@@ -1,5 +1,6 @@
 // The sixteen pair flows of given discharge, exit volumes and seeds, or why there are none.
-// A lower layer's crate: its functions ask that no entry discharges more than 6000 veh/h.
+// A lower layer's crate: its functions ask that no entry discharges more than 6000 veh/h, by a clause and no type: to the refusals
+// and the settling the same volumes are plain counts.
 #![tactic(auto)]
 
 ghost use Rattle.std.specs.Prelude.{◌≡◌};

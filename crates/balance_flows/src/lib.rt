@@ -20,6 +20,7 @@ pub fn all_finite(x: Flows) -> bool
     x.map(f64::is_finite).all()
 }
 
+// One line over `all`, with a definition of its own.
 #[tactic(auto, unfolding(crate::specs::Flows::table_finite))]
 pub fn table_finite(x: FlowTable) -> bool
     ensures { result ≡ table_finite x }

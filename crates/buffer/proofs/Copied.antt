@@ -6,14 +6,15 @@ use Rattle.std.proofs.lemmas.List.{take-append-drop, take-replicate, length-repl
 use Rattle.std.proofs.lemmas.List.Edits.{sets, sets-eq}
 use Rattle.std.proofs.Math.Seq.{length-sets}
 use borrow.Rule.Slice.PartMut.{put_mid, Post-is}
-use Rattle.buffer.specs.Buffer.{put, next_place, WroteAt}
+use Rattle.buffer.specs.Buffer.{cursor, put, next_place}
 use Rattle.buffer.specs.Pieces.{sets_out, sets_append}
 
-wrote : (b : List ℕ) (at : ℕ) (piece : List ℕ) {b' : List ℕ} {p : ℕ} → b' ≡ sets b at piece → p ≡ next_place b at piece → WroteAt b at piece b' p
+wrote : (b : List ℕ) (at : ℕ) (piece : List ℕ) {b' : List ℕ} {p : ℕ} → b' ≡ sets b at piece → p ≡ next_place b at piece →
+    put (cursor b at) piece ≡ cursor b' p
 unfolding put
-wrote b at piece e f = record { is = rw (e, f) }
+wrote b at piece e f = rw (e, f)
 
-pub past : (b : List ℕ) (at : ℕ) (piece : List ℕ) → length b < at → WroteAt b at piece b at
+pub past : (b : List ℕ) (at : ℕ) (piece : List ℕ) → length b < at → put (cursor b at) piece ≡ cursor b at
 unfolding next_place
 past b at piece h = wrote _ _ _ (sym (sets_out b at piece (omega arith))) (omega arith)
 
@@ -32,7 +33,7 @@ module _ (b : List ℕ) (at : ℕ) (piece : List ℕ) {n : ℕ} (start : at ≤ 
       go false e = sets_out _ (at + n) (drop n piece) (rw length-sets (omega (arith, leb-false (length piece) n e, most, start)))
 
   -- the part lent to the copy becomes the front of the piece
-  pub copied : {part : List ℕ} → part ≡ take n piece → WroteAt b at piece (put_mid at (at + n - at) b part) (at + n)
+  pub copied : {part : List ℕ} → part ≡ take n piece → put (cursor b at) piece ≡ cursor (put_mid at (at + n - at) b part) (at + n)
   unfolding next_place
   copied e =
       let fits : at + length (take n piece) ≤ length b = omega (arith, taken, most, start) in
@@ -43,7 +44,7 @@ module _ (b : List ℕ) (at : ℕ) (piece : List ℕ) {n : ℕ} (start : at ≤ 
 module _ (b : List ℕ) (at byte count : ℕ) {n : ℕ} (start : at ≤ length b) (most : n ≡ min count (length b - at)) where
   -- the part lent to the filling becomes the front of the run
   pub filled : {part : List ℕ} → part ≡ replicate (length (take (at + n - at) (drop at b))) byte →
-      WroteAt b at (replicate count byte) (put_mid at (at + n - at) b part) (at + n)
+      put (cursor b at) (replicate count byte) ≡ cursor (put_mid at (at + n - at) b part) (at + n)
   filled e =
       let long : length (take (at + n - at) (drop at b)) ≡ n = simp (length-take, length-drop) (omega (arith, most, start)) in
       let front : take n (replicate count byte) ≡ replicate n byte = take-replicate n count byte (omega (arith, most)) in

@@ -13,6 +13,7 @@ pub struct Writer<'a> {
 
 impl<'a> Writer<'a> {
     // A piece; a place past the end leaves the buffer.
+    #[tactic(auto, using(crate::proofs::Copied::past, crate::proofs::Copied::copied))]
     pub fn put(&mut self, piece: &[u8])
         ensures { Wrote self.old piece.now self.new }
     {
@@ -26,6 +27,7 @@ impl<'a> Writer<'a> {
     }
 
     // So many times a byte.
+    #[tactic(auto, using(crate::proofs::Copied::past, crate::proofs::Copied::filled))]
     pub fn put_run(&mut self, byte: u8, count: usize)
         ensures { Wrote self.old (replicate count byte) self.new }
     {

@@ -106,5 +106,6 @@ page_laid {ts} f few behind =
     record {
       long = rw length-append (omega (arith, page_length f few));
       texts = λ i j m n. rw (← (byte_of (page ts ++ behind) i j (omega arith)), page_line f few behind i m) (line_byte (get_or ts i []) (fit_at f i) j n);
-      newlines = λ i m. rw (← (byte_of (page ts ++ behind) i line_width (omega arith)), page_line f few behind i m) (line_newline (get_or ts i []) (fit_at f i));
+      newlines = λ i m. rw (← (byte_of (page ts ++ behind) i line_width (omega arith)), page_line f few behind i m)
+          (line_newline (get_or ts i []) (fit_at f i));
     }

@@ -32,6 +32,7 @@ fn write_text<W: Write>(to: &mut W, form: Form, input: &[u8], text: &[u8]) -> io
 }
 
 // An answer that is asked to be the text's length, and so no refusal: the text is written, and its length handed back.
+// A match, and no conversion of the refusal: as an error of input or output it would say what the contract rules out.
 pub fn write_answer<W: Write>(
     to: &mut W,
     form: Form,
@@ -53,6 +54,7 @@ pub fn write_answer<W: Write>(
 }
 
 // The text of an input to a lent buffer that has room for every text of its form.
+// A match on the form: `report` has a public call for each, since C calls both.
 fn make_text(form: Form, input: &[u8], text: &mut [u8]) -> Result<usize, Refusal>
     requires { text_room form ≤ length text.old }
     ensures { Text form input.now text.new result }

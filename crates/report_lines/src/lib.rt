@@ -54,6 +54,7 @@ pub fn record_line(text: &mut Writer, number: u32, cycle: u32, arrival: u32, rou
     end_line(text);
 }
 
+// This line and a refused record's: the words and an end, one call each, with a definition of its own.
 #[tactic(auto, using(buffer::proofs::Pieces::put_append), unfolding(crate::specs::Lines::exit_line))]
 pub fn exit_line(text: &mut Writer, label: &[u8], f: ExitFigures)
     ensures { Wrote text.old (exit_line label.now f) text.new }

@@ -1,4 +1,5 @@
 // The lines of one record, from its number, its cycle and what its working answered, put into a lent buffer.
+// Number and cycle stay two plain numbers: each definition of a line takes them apart.
 #![tactic(auto)]
 
 ghost use Rattle.buffer.specs.Buffer.{Wrote};

@@ -4,9 +4,8 @@ use Rattle.std.proofs.Common.{arith, sym, ◌∙◌, length-append, length-drop,
 use Rattle.std.proofs.Math.ListN.{drop_of_length-le}
 use Rattle.std.proofs.Math.Seq.{length-take-le}
 use Rattle.std.proofs.lemmas.List.{take_all, take_at, drop_at}
-use Rattle.buffer.specs.declared.Writer.{Writer}
-use Rattle.buffer.specs.Buffer.{Wrote}
-use Rattle.buffer.proofs.Pieces.{◌then◌}
+use Rattle.buffer.specs.Buffer.{Cursor, put}
+use Rattle.buffer.proofs.Pieces.{put_append}
 use Rattle.working_outcome.specs.declared.Working.{Working}
 use Rattle.text.specs.Text.{columns}
 use Rattle.page.specs.Page.{page_lines, line, lines, blank_lines, page}
@@ -75,12 +74,13 @@ pairs_none rows i h = rw (drop_of_length-le (pair_lines rows) {i = i} h) refl
 -- ---- the page
 
 -- the lines above the run, the run, and blank lines
-pub page_done : (number cycle : ℕ) (w : Working) (output : List ℕ) → cycle + cycle ≤ length output →
-    {t t₁ t₂ t₃ : Writer} → Wrote t (lines (head_lines number cycle w)) t₁ → Wrote t₁ (run_lines (take (cycle + cycle - cycle) (drop cycle output))) t₂ →
-    Wrote t₂ (blank_lines (page_lines - (8 + rows_for cycle))) t₃ → Wrote t (worked_page number cycle w output) t₃
+pub page_done : (c : Cursor) (number cycle : ℕ) (w : Working) (output : List ℕ) → cycle + cycle ≤ length output →
+    put c (worked_page number cycle w output) ≡
+    put (put (put c (lines (head_lines number cycle w))) (run_lines (take (cycle + cycle - cycle) (drop cycle output))))
+    (blank_lines (page_lines - (8 + rows_for cycle)))
 unfolding worked_page sheet_lines page
-page_done number cycle w output room u v x =
+page_done c number cycle w output room =
     let width : cycle + cycle - cycle ≡ cycle = omega arith in
     let one : 1 * cycle ≡ cycle = omega arith in
     let long : length (take cycle (drop cycle output)) ≡ cycle = length-take-le cycle (drop cycle output) (simp length-drop (omega arith)) in
-    rw (one, lines_append, length-append, head_lines_count, flow_lines_count, long) (u then (rw (width, long) at v) then x)
+    rw (one, lines_append, length-append, head_lines_count, flow_lines_count, long, width, long, put_append, put_append)

@@ -71,7 +71,8 @@ module _ {number cycle : ℕ} {w : Working} {run : List ℕ} (h : SheetFits numb
       let split : k * row_steps + q ≡ s = omega arith in
       let here : q < row_steps = omega arith in
       let inside : q < length row = simp (length-take, length-drop) (omega arith) in
-      let number_is : get_or row q 0 ≡ get_or run s 0 = get_or-take row_steps (drop (k * row_steps) run) q 0 here ∙ get_or-drop (k * row_steps) run q 0 ∙ rw split in
+      let number_is : get_or row q 0 ≡ get_or run s 0 =
+      get_or-take row_steps (drop (k * row_steps) run) q 0 here ∙ get_or-drop (k * row_steps) run q 0 ∙ rw split in
       let below : (i : ℕ) → get_or row i 0 < 10 ^ 8 = first_below (10 ^ 8) row_steps (drop (k * row_steps) run) (omega arith)
       (λ i. rw get_or-drop (h.flows (k * row_steps + i))) in
       rw (text_of (8 + k) (omega (arith, h.steps)), flow_text k (omega arith))

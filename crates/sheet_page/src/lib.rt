@@ -1,4 +1,5 @@
 // The exam sheet of one record on a page, put into a lent buffer: the record's line, its pair flows, its exits and the through run.
+// Number and cycle stay two plain numbers: each definition of a line takes them apart.
 #![tactic(auto)]
 
 ghost use Rattle.std.specs.Prelude.{◌+◌, ◌≤◌, ◌<◌, length};
@@ -90,6 +91,7 @@ fn head_lines(text: &mut Writer, number: u32, cycle: u32, w: Working)
 }
 
 // The page of a record that has worked.
+#[tactic(auto, using(crate::proofs::Lines::page_done))]
 pub fn worked_page(text: &mut Writer, number: u32, cycle: u32, w: Working, output: &[u32])
     requires { cycle + cycle ≤ length output.now }
     ensures { Wrote text.old (worked_page number cycle w output.now) text.new }

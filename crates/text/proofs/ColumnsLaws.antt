@@ -1,5 +1,6 @@
 -- Laws of specs/Columns.antt.
-use Rattle.std.specs.Prelude.{ℕ, zero, suc, ◌+◌, ◌-◌, ◌*◌, ◌/◌, ◌%◌, ◌^◌, ◌≤◌, ◌<◌, Bool, true, false, cond, ◌≡◌, refl, List, [], ◌∷◌, ◌++◌, eqb, length, get_or}
+use Rattle.std.specs.Prelude.{ℕ, zero, suc, ◌+◌, ◌-◌, ◌*◌, ◌/◌, ◌%◌, ◌^◌, ◌≤◌, ◌<◌, Bool, true, false, cond, ◌≡◌, refl}
+use Rattle.std.specs.Prelude.{List, [], ◌∷◌, ◌++◌, eqb, length, get_or}
 use Rattle.std.proofs.Common.{arith, ◌∙◌, append_assoc, length-append, le-leb}
 use Rattle.std.proofs.lemmas.List.{length-replicate}
 use Rattle.runs.specs.Runs.{run_at, run_first, run_behind}

@@ -7,6 +7,8 @@ ghost use Rattle.text.specs.Text.{column, columns, decimal, field};
 
 use buffer::Writer;
 
+// The digits are made by the library `itoa`, and put here.
+#[tactic(auto, using(crate::proofs::Printed::decimal_printed))]
 pub fn append_decimal(text: &mut Writer, n: u64)
     ensures { Wrote text.old (decimal n) text.new }
 {
@@ -24,6 +26,7 @@ pub fn append_field(text: &mut Writer, label: &[u8], n: u64)
 }
 
 // A number right-aligned in a column of so many bytes.
+#[tactic(auto, using(buffer::proofs::Pieces::put_append, crate::proofs::Printed::decimal_printed), unfolding(crate::specs::Text::column))]
 pub fn append_column(text: &mut Writer, width: usize, n: u64)
     ensures { Wrote text.old (column width n) text.new }
 {

@@ -30,7 +30,8 @@ whole {b} {cases} {differing} {line} {n} e h k w =
     let fits = wrote_fits w (omega (arith, closing_fits cases differing h (omega arith))) in
     rw (fits.0, fits.1, z) (take_at closing (drop (length closing) b) _ refl)
 
-pub told : (x y z : Option (List ℕ)) {b : List ℕ} {cases differing : ℕ} {line : List ℕ} {n : ℕ} → Adds x y → length b ≡ 64 → cases < 2 ^ 32 → differing ≤ cases →
+pub told : (x y z : Option (List ℕ)) {b : List ℕ} {cases differing : ℕ} {line : List ℕ} {n : ℕ} →
+    Adds x y → length b ≡ 64 → cases < 2 ^ 32 → differing ≤ cases →
     WroteAt b 0 (closing_line cases differing) line n → Appends y z (take n line) → Told x z
 told x y z {b} {cases} {differing} more e h k w last =
     let written : Appends y z (closing_line cases differing) = rw (whole e h k w) at last in

@@ -5,7 +5,8 @@ ghost use Rattle.std.specs.Prelude.{◌≡◌, ◌+◌, ◌-◌, ◌*◌, ◌≤
 ghost use Rattle.std.specs.Io.KnownBytes.{Appends};
 ghost use Rattle.octets.specs.Octets.{word2, word4};
 ghost use Rattle.buffer.specs.Buffer.{WroteAt, next_place};
-ghost use Rattle.vectors.specs.Vectors.{Adds, IsRecordAndRest, Lendable, Patterned, Told, byte_pattern, closing_line, float_differs, pattern, profile_differs, profiles_differ, rows_differ, words_differ};
+ghost use Rattle.vectors.specs.Vectors.{Adds, IsRecordAndRest, Lendable, Patterned, Told, byte_pattern, closing_line, float_differs};
+ghost use Rattle.vectors.specs.Vectors.{pattern, profile_differs, profiles_differ, rows_differ, words_differ};
 
 use buffer::Writer;
 use std::io;
@@ -91,6 +92,7 @@ pub fn finish<W: Write>(
 }
 
 // Runs the cases of a vector file, each read into a lent buffer: says which differ, and closes with how many did.
+// The `main` of each test program is this call with a buffer and a comparison of its own: it holds the handle, so it stays.
 pub fn run<R: Read, W: Write, F: Fn(&[u8]) -> bool>(
     input: &mut R,
     output: &mut W,
@@ -220,7 +222,7 @@ impl<'a> Profiles<'a> {
     }
 }
 
-// Whether some of the sixteen pair flows differs, in rows from a place on.
+// Whether some of the sixteen pair flows differs, in rows from a place on: one line over the numbers, with a definition of its own.
 pub fn rows_differ(expected: &[u8], at: usize, rows: [[u32; 4]; 4]) -> bool
     requires { at + 64 ≤ length expected.now }
     ensures { result ≡ rows_differ expected.now at rows }

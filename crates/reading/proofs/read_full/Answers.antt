@@ -1,5 +1,5 @@
 -- What a read gave stands behind what was read before.
-use Rattle.std.proofs.Common.{◌≡◌, ℕ, ◌+◌, ◌-◌, ◌≤◌, List, ◌++◌, rules, arith, length, take, slice_range, sym, ap, ◌∙◌, subst, le_refl, drop_at, length-take-le}
+use Rattle.std.proofs.Common.{◌≡◌, ℕ, ◌+◌, ◌≤◌, List, ◌++◌, rules, length, take, sym, ◌∙◌, subst, le_refl, drop_at, length-take-le}
 use Rattle.std.proofs.lemmas.Slice.{take-put_mid_below}
 use Rattle.std.specs.Io.KnownBytes.{Consumes}
 use Rattle.std.proofs.KnownBytes.{Consumes-trans}
@@ -7,30 +7,16 @@ use borrow.Rule.Slice.PartMut.{put_mid, post_of}
 use lib.Seq.{take-add, take-append-le}
 use Rattle.reading.proofs.read_full.Goals as goal
 
--- what stood in front of a, and what stands from a to b, are the front up to b
-take_split : (a b : ℕ) (old new : List ℕ) → a ≤ b → take a new ≡ take a old → take a old ++ slice_range new a b ≡ take b new
-take_split a b old new h front =
-    let same : a + (b - a) ≡ b = omega arith in
-    ap (λ l. l ++ slice_range new a b) (sym front) ∙ sym (take-add a (b - a) new) ∙ ap (λ n. take n new) same
-
--- the front of a part that is put in from a on
-slice_range-put_mid : (a k n : ℕ) (xs ys : List ℕ) → a ≤ length xs → n ≤ length ys → slice_range (put_mid a k xs ys) a (a + n) ≡ take n ys
-slice_range-put_mid a k n xs ys within fits =
-    let same : (a + n) - a ≡ n = omega arith in
-    let after = post_of a k xs in
-    ap (take ((a + n) - a)) (drop_at (take a xs) (ys ++ after) a (length-take-le a xs within))
-    ∙ ap (λ m. take m (ys ++ after)) same
-    ∙ take-append-le n ys after fits
+-- the front up to a and the front of the part that is put in behind it
+take-put_mid_within : (a k n : ℕ) (xs ys : List ℕ) → a ≤ length xs → n ≤ length ys → take (a + n) (put_mid a k xs ys) ≡ take a xs ++ take n ys
+take-put_mid_within a k n xs ys within fits =
+    take-add a n (put_mid a k xs ys)
+    ∙ rw (take-put_mid_below a k xs ys a (le_refl a) within, drop_at (take a xs) (ys ++ post_of a k xs) a (length-take-le a xs within))
+    (rw (take-append-le n ys (post_of a k xs) fits))
 
 pub loop-n-preserved : goal.loop-n-preserved
 loop-n-preserved g c =
-    let from = c.loop-n.n in
-    let room = length c.loop-n.buffer - from in
-    let within = c.loop-n.invariant.0 in
-    let more = c.in_ok-more.more in
+    let before = c.loop-n.invariant in
     let read = c.in_ok-more.ensures in
-    let whole = put_mid from room c.loop-n.buffer c.read.new.buf in
-    let part = slice_range-put_mid from room more c.loop-n.buffer c.read.new.buf within read.bound.0 in
-    let joined = take_split from (from + more) c.loop-n.buffer whole (omega arith) (take-put_mid_below _ _ _ _ _ (le_refl _) within) in
-    let kept = Consumes-trans _ _ _ _ _ c.loop-n.invariant.1 read.bytes.0 in
-    (search rules, subst (Consumes _ _) (ap (λ l. take from c.loop-n.buffer ++ l) (sym part) ∙ joined) kept)
+    let joined = take-put_mid_within c.loop-n.n _ c.in_ok-more.more c.loop-n.buffer c.read.new.buf before.0 read.bound.0 in
+    (search rules, subst (Consumes _ _) (sym joined) (Consumes-trans _ _ _ _ _ before.1 read.bytes.0))

@@ -1,14 +1,9 @@
-use Rattle.std.proofs.Common.{arith}
+-- A run that holds the pattern in each place is the pattern.
+use Rattle.std.proofs.Common.{◌+◌, arith}
+use Rattle.lists.specs.Lists.{tab_is}
 use Rattle.vectors.specs.Vectors.{pattern}
-use Rattle.vectors.proofs.Laws.{filling_start, filling_turn, filling_done}
 use Rattle.vectors.proofs.fill_pattern.Goals as goal
-
-pub loop-i-init : goal.loop-i-init
-loop-i-init c = filling_start _ _
-
-pub loop-i-preserved : goal.loop-i-preserved
-loop-i-preserved c = filling_turn c.loop-i.invariant (omega arith)
 
 pub returns : goal.returns
 unfolding pattern
-returns c = filling_done c.loop-i.invariant (omega arith)
+returns c = tab_is (λ k. c.args.first + k) 0 _ _ c.loop-i.invariant.0 (λ k h. omega (arith, c.loop-i.invariant.1 k (omega arith)))
