@@ -42,7 +42,7 @@ fn answers(answer: Result<usize, Refusal>, number: u32, value: usize) -> bool {
     }
 }
 
-// Kind 1: number, count, places. The place after the last is refused, by 6 where the archive reads.
+// Kind 1: number, count, places. The place after the last is refused, by `Record` where the archive reads.
 fn same_read(body: &mut Body, archive: &[u8]) -> Option<bool> {
     let number = body.number()?;
     let count = body.length()?;
@@ -52,7 +52,11 @@ fn same_read(body: &mut Body, archive: &[u8]) -> Option<bool> {
             return Some(false);
         }
     }
-    let after = if number == 0 { 6 } else { number };
+    let after = if number == 0 {
+        Refusal::Record.number()
+    } else {
+        number
+    };
     Some(
         answers(archive_read::count(archive), number, count)
             & answers(archive_read::place(archive, count), after, 0),

@@ -73,6 +73,7 @@ pub fn grow(
     requires { Fits count t (length s.now) (length segment.now) (length title.now) (length out.old) }
     ensures { WroteAt out.old 0 (grown e s.now count t segment.now title.now) out.new result }
 {
+    // A literal: it shows the place 0 that the contract names, where a constructor hides it.
     let mut out = Writer { bytes: out, at: 0 };
     put_grown(e, s, count, t, segment, title, &mut out);
     out.at

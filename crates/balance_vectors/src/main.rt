@@ -13,6 +13,13 @@ use movements::{Counts, PerMovement, Seeds};
 use std::io;
 use std::num::f64_to_bits_with_nan;
 
+// The outcome of a case in the file.
+const UNSETTLED: u32 = 0;
+
+const SETTLED: u32 = 1;
+
+const NOT_RUN: u32 = 2;
+
 fn counts_at(s: &[u8; 260], at: usize) -> Counts
     requires { at + 16 ≤ 260 }
 {
@@ -38,16 +45,16 @@ fn settling_differs(s: &[u8; 260], outcome: u32, rounds: u32, sum: f64, cells: F
 
 fn balance_differs(s: &[u8; 260], x: Balance) -> bool {
     match x.settling {
-        Settling::Settled(sum) => settling_differs(s, 1, x.rounds, sum, x.cells),
-        Settling::Unsettled(sum) => settling_differs(s, 0, x.rounds, sum, x.cells),
+        Settling::Settled(sum) => settling_differs(s, SETTLED, x.rounds, sum, x.cells),
+        Settling::Unsettled(sum) => settling_differs(s, UNSETTLED, x.rounds, sum, x.cells),
     }
 }
 
 fn unworked_differs(s: &[u8; 260], u: Unworked, b: Balance) -> bool {
     match u {
         Unworked::Unsettled(sum) => balance_differs(s, b) | vectors::float_differs(s, 60, sum),
-        // No settling was run: no rounds, no sum, no cells.
-        Unworked::Refused(_) => settling_differs(s, 2, 0, 0.0, FlowTable::default()),
+        // No rounds, no sum, no cells.
+        Unworked::Refused(_) => settling_differs(s, NOT_RUN, 0, 0.0, FlowTable::default()),
     }
 }
 

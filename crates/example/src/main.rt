@@ -1,7 +1,10 @@
 // The README's examples, run: a record is tested, filed with a title, found again, printed and worked.
 #![tactic(auto)]
 
+ghost use Rattle.std.specs.Prelude.{IfOk};
+
 use archive_format::TitlePart;
+use balance_decision::Unworked;
 use points::{Point, Points};
 use refusal::Refusal;
 use std::io;
@@ -40,25 +43,30 @@ fn say(rt: &impl Print, label: &str, n: u64) -> io::Result<()> {
     println!(rt; "{label} {n}")
 }
 
-fn refused(rt: &impl Print, number: u32) -> io::Result<()> {
-    say(rt, "refused", u64::from(number))
-}
-
-fn tell(rt: &impl Print, label: &str, answer: Result<usize, Refusal>) -> io::Result<()> {
+// Says something of what was answered, or the number of what refused it.
+fn tell<T, E: Into<Unworked>, F: FnOnce(T) -> io::Result<()>>(
+    rt: &impl Print,
+    answer: Result<T, E>,
+    of: F,
+) -> io::Result<()>
+    requires { IfOk answer (F.pre of) }
+{
     match answer {
-        Ok(n) => say(rt, label, n as u64),
-        Err(refusal) => refused(rt, refusal.number()),
+        Ok(x) => of(x),
+        Err(why) => {
+            let unworked: Unworked = why.into();
+            say(rt, "refused", u64::from(unworked.number()))
+        }
     }
 }
 
-fn tell_part(rt: &impl Print, part: Result<TitlePart, Refusal>) -> io::Result<()> {
-    match part {
-        Ok(part) => {
-            say(rt, "title at", part.place as u64)?;
-            say(rt, "title of", part.length as u64)
-        }
-        Err(refusal) => refused(rt, refusal.number()),
-    }
+fn tell_number(rt: &impl Print, label: &str, answer: Result<usize, Refusal>) -> io::Result<()> {
+    tell(rt, answer, |n| say(rt, label, n as u64))
+}
+
+fn tell_part(rt: &impl Print, part: TitlePart) -> io::Result<()> {
+    say(rt, "title at", part.place as u64)?;
+    say(rt, "title of", part.length as u64)
 }
 
 fn read(rt: &impl Print, archive: &[u8]) -> io::Result<()> {
@@ -67,10 +75,10 @@ fn read(rt: &impl Print, archive: &[u8]) -> io::Result<()> {
     let found = archive_read::find(archive, 1);
     let part = archive_read::title_part(archive, 1);
     let title = archive_read::title(archive, 1);
-    tell(rt, "records", count)?;
-    tell(rt, "place of the first:", place)?;
-    tell(rt, "place of record 1:", found)?;
-    tell_part(rt, part)?;
+    tell_number(rt, "records", count)?;
+    tell_number(rt, "place of the first:", place)?;
+    tell_number(rt, "place of record 1:", found)?;
+    tell(rt, part, |part| tell_part(rt, part))?;
     rt.write_all(title)?;
     rt.write_all(b"\n")
 }
@@ -78,9 +86,10 @@ fn read(rt: &impl Print, archive: &[u8]) -> io::Result<()> {
 // The text of an archive, or the refusal of a buffer that is too short for every text.
 fn print(rt: &impl Print, archive: &[u8], text: &mut [u8]) -> io::Result<()> {
     let answer = report::report(archive, text);
+    // A match: through `tell` the proof that the length lies within the buffer did not close.
     match answer {
-        Ok(n) => rt.write_all(&text[0..n]),
-        Err(refusal) => refused(rt, refusal.number()),
+        Ok(n) => rt.write_all(&text[..n]),
+        Err(refusal) => say(rt, "refused", u64::from(refusal.number())),
     }
 }
 
@@ -88,7 +97,7 @@ fn file(rt: &impl Print, record: &[u8]) -> io::Result<()> {
     let archive = archive_format::empty();
     let mut bigger = [0u8; 128];
     let added = archive_add::add(&archive, record, b"Elm Street", &mut bigger);
-    tell(rt, "new length", added)?;
+    tell_number(rt, "new length", added)?;
     read(rt, &bigger[0..87])?;
     let mut short = [0u8; 512];
     print(rt, &bigger[0..87], &mut short)?;
@@ -97,32 +106,34 @@ fn file(rt: &impl Print, record: &[u8]) -> io::Result<()> {
 }
 
 fn check(rt: &impl Print, record: &[u8]) -> io::Result<()> {
-    match validation::check(record) {
-        Ok(accepted) => say(rt, "cycle", accepted.segment.cycle as u64),
-        Err(refusal) => refused(rt, refusal.number()),
-    }
+    let answer = validation::check(record);
+    tell(
+        rt,
+        answer,
+        |accepted| say(rt, "cycle", u64::from(accepted.segment.cycle)),
+    )
 }
 
 fn discharge_of(rt: &impl Print, record: &[u8]) -> io::Result<()> {
     let mut profile = [0u32; limits::DISCHARGE_ROOM];
-    match discharge::discharge(record, &mut profile) {
-        Ok(volumes) => say(rt, "through discharges", volumes.through as u64),
-        Err(refusal) => refused(rt, refusal.number()),
-    }
+    let answer = discharge::discharge(record, &mut profile);
+    tell(
+        rt,
+        answer,
+        |o| say(rt, "through discharges", u64::from(o.through)),
+    )
 }
 
 fn work(rt: &impl Print, record: &[u8]) -> io::Result<()> {
     let mut output = [0u32; limits::OUTPUT_ROOM];
     let mut first = [0u32; limits::CYCLE_ROOM];
     let mut second = [0u32; limits::CYCLE_ROOM];
-    match working::work(record, &mut output, &mut first, &mut second) {
-        Ok(w) => say(rt, "permille on green", w.through.permille as u64),
-        Err(unworked) => refused(rt, unworked.number()),
-    }
-}
-
-fn show(rt: &impl Print, lines: &[u8]) -> io::Result<()> {
-    rt.write_all(lines)
+    let answer = working::work(record, &mut output, &mut first, &mut second);
+    tell(
+        rt,
+        answer,
+        |w| say(rt, "permille on green", u64::from(w.through.permille)),
+    )
 }
 
 // The first ten lines of a sheet.
@@ -131,10 +142,8 @@ fn print_sheet(rt: &impl Print, record: &[u8]) -> io::Result<()> {
     let mut output = [0u32; limits::OUTPUT_ROOM];
     let mut first = [0u32; limits::CYCLE_ROOM];
     let mut second = [0u32; limits::CYCLE_ROOM];
-    match sheet::sheet(record, &mut page, &mut output, &mut first, &mut second) {
-        Ok(_) => show(rt, &page[0..730]),
-        Err(unworked) => refused(rt, unworked.number()),
-    }
+    let answer = sheet::sheet(record, &mut page, &mut output, &mut first, &mut second);
+    tell(rt, answer, |_| rt.write_all(&page[..730]))
 }
 
 // 10 and 25 seconds from the upstream signal; places beyond the count are not looked at.
@@ -155,8 +164,8 @@ fn two_points() -> Points {
 }
 
 fn tell_blocked(rt: &impl Print, blocked: [u32; points::POINT_ROOM]) -> io::Result<()> {
-    say(rt, "blocked at the first point", blocked[0] as u64)?;
-    say(rt, "blocked at the second", blocked[1] as u64)
+    say(rt, "blocked at the first point", u64::from(blocked[0]))?;
+    say(rt, "blocked at the second", u64::from(blocked[1]))
 }
 
 fn work_points(rt: &impl Print, record: &[u8]) -> io::Result<()> {
@@ -172,13 +181,7 @@ fn work_points(rt: &impl Print, record: &[u8]) -> io::Result<()> {
         &mut first,
         &mut second,
     );
-    match answer {
-        Ok(w) => {
-            let blocked = w.blocked;
-            tell_blocked(rt, blocked)
-        }
-        Err(unworked) => refused(rt, unworked.number()),
-    }
+    tell(rt, answer, |w| tell_blocked(rt, w.blocked))
 }
 
 fn main(rt: HostRuntime) -> io::Result<()> {

@@ -1,7 +1,7 @@
 // Support of the test programs: cases of a vector file from standard input, and what is said of them. docs/VECTORS.md has the format.
 #![tactic(auto)]
 
-ghost use Rattle.std.specs.Prelude.{◌≡◌, ◌+◌, ◌-◌, ◌*◌, ◌≤◌, ◌<◌, ◌^◌, length, take, drop, IfOk, OnOk, MatchOption};
+ghost use Rattle.std.specs.Prelude.{◌≡◌, ◌+◌, ◌-◌, ◌*◌, ◌≤◌, ◌<◌, ◌^◌, length, take, drop, IfOk, IfSome, OnOk, MatchOption};
 ghost use Rattle.std.specs.Io.KnownBytes.{Appends};
 ghost use Rattle.octets.specs.Octets.{word2, word4};
 ghost use Rattle.buffer.specs.Buffer.{WroteAt, next_place};
@@ -37,20 +37,18 @@ pub fn read_word<R: Read>(input: &mut R, word: &mut [u8]) -> io::Result<u32>
     Ok(octets::word4_at(&word[..], 0))
 }
 
-// The body of the next case, in the front of a buffer: no more than fits. What is read no contract can say.
-pub fn read_case<R: Read>(input: &mut R, body: &mut [u8]) -> io::Result<usize>
-    ensures { IfOk result (λ n. n ≤ length body.new) }
+// The length of the next case's body, read to the front of a buffer; none where it does not fit, or the input ends before. What is read
+// no contract can say.
+pub fn read_case<R: Read>(input: &mut R, body: &mut [u8]) -> io::Result<Option<usize>>
+    ensures { IfOk result (λ n. IfSome n (λ n. n ≤ length body.new)) }
 {
     let mut word = [0u8; 4];
     let n = read_word(input, &mut word)? as usize;
     if body.len() < n {
-        return Ok(0);
+        return Ok(None);
     }
-    let got = reading::read_full(input, &mut body[0..n])?;
-    if got < n {
-        return Ok(0);
-    }
-    Ok(n)
+    let got = reading::read_full(input, &mut body[..n])?;
+    Ok((got == n).then_some(n))
 }
 
 // Says that a case differs, and returns one more than the number that did before.
@@ -68,6 +66,7 @@ pub fn differing<W: Write>(output: &mut W, i: u32, before: u32) -> io::Result<u3
 fn closing_line(line: &mut [u8], cases: u32, differing: u32) -> usize
     ensures { WroteAt line.old 0 (closing_line cases differing) line.new result }
 {
+    // A literal: it shows the place 0 that the contract names, where a constructor hides it.
     let mut line = Writer { bytes: line, at: 0 };
     text::append_decimal(&mut line, u64::from(cases));
     text::append_field(&mut line, b" cases, ", u64::from(differing));
@@ -91,7 +90,8 @@ pub fn finish<W: Write>(
     Ok(n)
 }
 
-// Runs the cases of a vector file, each read into a lent buffer: says which differ, and closes with how many did.
+// Runs the cases of a vector file, each read into a lent buffer: says which differ, and closes with how many did. One that is not read
+// whole differs.
 // The `main` of each test program is this call with a buffer and a comparison of its own: it holds the handle, so it stays.
 pub fn run<R: Read, W: Write, F: Fn(&[u8]) -> bool>(
     input: &mut R,
@@ -106,8 +106,7 @@ pub fn run<R: Read, W: Write, F: Fn(&[u8]) -> bool>(
     let cases = read_word(input, &mut word)?;
     let mut count = 0;
     for i in 0..cases {
-        let n = read_case(input, body)?;
-        if differs(&body[..n]) {
+        if read_case(input, body)?.is_none_or(|n| differs(&body[..n])) {
             count = differing(output, i, count)?;
         }
     }
