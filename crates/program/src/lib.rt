@@ -53,19 +53,8 @@ pub fn write_answer<W: Write>(
     }
 }
 
-// The text of an input to a lent buffer that has room for every text of its form.
-// A match on the form: `report` has a public call for each, since C calls both.
-fn make_text(form: Form, input: &[u8], text: &mut [u8]) -> Result<usize, Refusal>
-    requires { text_room form ≤ length text.old }
-    ensures { Text form input.now text.new result }
-{
-    match form {
-        Form::Lines => report::report(input, text),
-        Form::Sheet => report::sheets(input, text),
-    }
-}
-
 // A program: reads an archive and prints its text, in buffers that its caller lends.
+#[tactic(auto, using(report::proofs::Whole::whole_text))]
 pub fn run<R: Read, W: Write>(
     from: &mut R,
     to: &mut W,
@@ -79,7 +68,7 @@ pub fn run<R: Read, W: Write>(
 {
     let n = read_input(from, input)?;
     let archive = &input[..n];
-    let answer = make_text(form, archive, text);
+    let answer = report::text_to(form, archive, text);
     write_answer(to, form, archive, text, answer)?;
     Ok(())
 }

@@ -97,7 +97,8 @@ text_whole form l t bytes e roomy w =
     let z : 0 + length (input_text form l) ≡ length (input_text form l) = omega arith in
     rw (le-leb _ _ h) (record { answer = rw (fits.1, z); buffer = rw z at fits.0 })
 
-whole_text : (form : Form) (l t : List ℕ) {r : Or ℕ} {t' : List ℕ} → text_room form ≤ length t → Writes (text_of form l (length t)) t r t' → Text form l t' r
+-- a caller with room reads the whole text
+pub whole_text : (form : Form) (l t : List ℕ) {r : Or ℕ} {t' : List ℕ} → text_room form ≤ length t → Writes (text_of form l (length t)) t r t' → Text form l t' r
 unfolding need
 whole_text form l t {r} {t'} h w =
     let v = rw (le-leb (text_room form) (length t) h) at w in
