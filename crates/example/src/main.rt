@@ -6,6 +6,7 @@ ghost use Rattle.std.specs.Prelude.{IfOk};
 use archive_format::TitlePart;
 use balance_decision::Unworked;
 use points::{Point, Points};
+use propagation::LentProfiles;
 use refusal::Refusal;
 use std::io;
 
@@ -128,7 +129,12 @@ fn work(rt: &impl Print, record: &[u8]) -> io::Result<()> {
     let mut output = [0u32; limits::OUTPUT_ROOM];
     let mut first = [0u32; limits::CYCLE_ROOM];
     let mut second = [0u32; limits::CYCLE_ROOM];
-    let answer = working::work(record, &mut output, &mut first, &mut second);
+    let mut profiles = LentProfiles {
+        output: &mut output,
+        first: &mut first,
+        second: &mut second,
+    };
+    let answer = working::work(record, &mut profiles);
     tell(
         rt,
         answer,
@@ -142,7 +148,12 @@ fn print_sheet(rt: &impl Print, record: &[u8]) -> io::Result<()> {
     let mut output = [0u32; limits::OUTPUT_ROOM];
     let mut first = [0u32; limits::CYCLE_ROOM];
     let mut second = [0u32; limits::CYCLE_ROOM];
-    let answer = sheet::sheet(record, &mut page, &mut output, &mut first, &mut second);
+    let mut profiles = LentProfiles {
+        output: &mut output,
+        first: &mut first,
+        second: &mut second,
+    };
+    let answer = sheet::sheet(record, &mut page, &mut profiles);
     tell(rt, answer, |_| rt.write_all(&page[..730]))
 }
 
@@ -173,14 +184,12 @@ fn work_points(rt: &impl Print, record: &[u8]) -> io::Result<()> {
     let mut passing = [0u32; 2 * limits::CYCLE_ROOM];
     let mut first = [0u32; limits::CYCLE_ROOM];
     let mut second = [0u32; limits::CYCLE_ROOM];
-    let answer = point_working::work_points(
-        record,
-        two_points(),
-        &mut output,
-        &mut passing,
-        &mut first,
-        &mut second,
-    );
+    let mut profiles = LentProfiles {
+        output: &mut output,
+        first: &mut first,
+        second: &mut second,
+    };
+    let answer = point_working::work_points(record, two_points(), &mut profiles, &mut passing);
     tell(rt, answer, |w| tell_blocked(rt, w.blocked))
 }
 
