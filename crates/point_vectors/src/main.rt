@@ -21,19 +21,9 @@ fn point_at(s: &[u8], at: usize) -> Point
 
 // The points of a case: their count, then eight places, given or not.
 fn points_at(s: &[u8; 68]) -> Points {
-    let at = [
-        point_at(s, 4),
-        point_at(s, 12),
-        point_at(s, 20),
-        point_at(s, 28),
-        point_at(s, 36),
-        point_at(s, 44),
-        point_at(s, 52),
-        point_at(s, 60),
-    ];
     Points {
         count: octets::word4_at(s, 0),
-        at,
+        at: std::array::from_fn(|i| point_at(s, 4 + 8 * i)),
     }
 }
 

@@ -19,7 +19,8 @@ overflow_add-made c =
 
 pub overflow_add-made-2 : goal.overflow_add-made-2
 overflow_add-made-2 c =
-    let s = step_numbers 500000 c.args.self {q = c.from.result} {level = c.from-2.result} (omega arith) c.divisor-d.ensures (omega arith) (omega arith) c.from-3.ensures in
+    let s = step_numbers 500000 c.args.self {q = c.from.result} {level = c.from-2.result} (omega arith) c.divisor-d.ensures (omega arith) (omega arith)
+    c.from-3.ensures in
     record { fits = all_made s c.from-3.result (omega arith) }
 
 pub overflow_cast-result : goal.overflow_cast-result
