@@ -7,6 +7,7 @@ use Rattle.refusal.specs.declared.Refusal.{Refusal}
 use Rattle.refusal.specs.Refusal.{Or, need, both}
 use Rattle.octets.specs.Octets.{word4, bytes2, word2_bound}
 use Rattle.archive_format.specs.declared.Edition.{Edition}
+use Rattle.archive_format.specs.Sized.{Sized}
 use Rattle.archive_format.specs.Archive.{record_limit, title_limit, Filed, body, place_after, places, encode, title_fits, filed_from}
 use Rattle.archive_format.specs.Archive.{single, add_to, add_of, Writes}
 use Rattle.archive_format.specs.Words.{Bytes}
@@ -56,17 +57,17 @@ module _ (e : Edition) (l : List ℕ) {count t last : ℕ} (h : Held e l count t
   bound = rw (counted, reached) (body_bound e.size h.fs fit.shaped)
 
   -- the old archive is small, whatever the buffer
-  pub held_small : t + e.size + 2 * count ≤ 66134
-  held_small =
+  pub held_small : Sized e.size → t + e.size + 2 * count ≤ 66134
+  held_small fit =
       let few : count ≤ record_limit = rw h.count_is h.read.many in
-      let wide : e.size + 1 + title_limit ≤ 127 = omega (arith, e.sized) in
+      let wide : e.size + 1 + title_limit ≤ 127 = omega (arith, fit) in
       omega (arith, bound, mul-le-mul few wide)
 
   -- two bytes hold the new trailer's place
-  pub held_next : (n : ℕ) → count < record_limit → n ≤ title_limit → t + e.size + 1 + n < word2_bound
-  held_next n m s =
+  pub held_next : (n : ℕ) → Sized e.size → count < record_limit → n ≤ title_limit → t + e.size + 1 + n < word2_bound
+  held_next n fit m s =
       let few : count + 1 ≤ record_limit = omega arith in
-      let wide : e.size + 1 + title_limit ≤ 127 = omega (arith, e.sized) in
+      let wide : e.size + 1 + title_limit ≤ 127 = omega (arith, fit) in
       omega (arith, bound, mul-le-mul few wide)
 
   module _ (b ti : List ℕ) where

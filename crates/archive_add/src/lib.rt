@@ -5,7 +5,7 @@ ghost use Rattle.std.specs.Prelude.{◌≡◌, length};
 ghost use Rattle.archive_format.specs.Archive.{title_fits, first_edition};
 ghost use Rattle.archive_add.specs.Adds.{Adds};
 
-use archive_format::{Edition, RECORD_LIMIT, TITLE_LIMIT, first_edition};
+use archive_format::{RECORD_LIMIT, SizedEdition, TITLE_LIMIT, first_edition};
 use archive_open::Archive;
 use refusal::{Refusal, need};
 
@@ -19,23 +19,31 @@ fn title_fits(title: &[u8]) -> bool
 // Every test stands before the first byte that is written.
 #[tactic(auto, unfolding(archive_format::specs::Archive::add_of, refusal::specs::Refusal::need))]
 fn add_in(
-    e: Edition,
+    e: SizedEdition,
     s: &[u8],
     segment: &[u8],
     title: &[u8],
     out: &mut [u8],
 ) -> Result<usize, Refusal>
-    ensures { Adds e s.now segment.now title.now out.old result out.new }
+    ensures { Adds e.edition s.now segment.now title.now out.old result out.new }
 {
     let archive = Archive::open(e, s)?;
-    need(Refusal::Record, segment.len() == e.size)?;
+    need(Refusal::Record, segment.len() == e.edition.size)?;
     need(Refusal::Title, title_fits(title))?;
     let number = octets::word4_at(segment, segment::NUMBER_AT);
     need(Refusal::Order, archive.last < number)?;
-    let length = archive.trailer + e.size + 1 + title.len() + 2 * archive.count + 8;
+    let length = archive.trailer + e.edition.size + 1 + title.len() + 2 * archive.count + 8;
     need(Refusal::BufferRoom, length <= out.len())?;
     need(Refusal::Full, archive.count < RECORD_LIMIT)?;
-    let n = archive_write::grow(e, s, archive.count, archive.trailer, segment, title, out);
+    let n = archive_write::grow(
+        e.edition,
+        s,
+        archive.count,
+        archive.trailer,
+        segment,
+        title,
+        out,
+    );
     Ok(n)
 }
 

@@ -2,7 +2,6 @@
 -- Paper 01's words: an archive is a drawer, a segment record a card.
 use Rattle.std.specs.Prelude.{ℕ, zero, suc, ◌+◌, ◌*◌, ◌-◌, Bool, true, ◌&&◌, cond, ◌≡◌, List, [], ◌∷◌, ◌++◌, leb, ltb, eqb, length, take, drop, get_or, Ok, Err}
 use Rattle.std.specs.List.{list_all}
-use Rattle.std.proofs.Common.{lit≤}
 use Rattle.refusal.specs.declared.Refusal.TheVariants.{Mark, Trailer, Places, Title, Order, Record, BufferRoom, Full}
 use Rattle.refusal.specs.Refusal.{Or, need, and_then}
 use Rattle.octets.specs.Octets.{word2, word4, bytes2}
@@ -191,4 +190,4 @@ pub record Writes (x : Or (List ℕ)) (before : List ℕ) (r : Or ℕ) (after : 
 -- ---- the first edition: records of 68 bytes, mark "DR"
 
 abbrev pub first_edition : Edition
-first_edition = record { size = layout.size; first = 68; second = 82; sized = (lit≤ tt, lit≤ tt) }
+first_edition = record { size = layout.size; first = 68; second = 82 }

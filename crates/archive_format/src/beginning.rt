@@ -1,17 +1,19 @@
-// The edition that is written, and the archive that the others grow from. Apart from `Edition`, which their contracts name.
+// The edition that is written, and the archive that the others grow from. Apart from `SizedEdition`, which their contracts name.
 ghost use Rattle.std.specs.Prelude.{◌≡◌, []};
 ghost use Rattle.archive_format.specs.Archive.{encode, first_edition};
 
-use crate::Edition;
+use crate::{Edition, SizedEdition};
 
 // The first edition: records of 68 bytes, mark "DR". A function, since each use of a constant would have a proof of its own that the size serves.
-pub fn first_edition() -> Edition
-    ensures { result ≡ first_edition }
+pub fn first_edition() -> SizedEdition
+    ensures { result.edition ≡ first_edition }
 {
-    Edition {
-        size: segment::SIZE,
-        first: 68,
-        second: 82,
+    SizedEdition {
+        edition: Edition {
+            size: segment::SIZE,
+            first: 68,
+            second: 82,
+        },
     }
 }
 
@@ -20,6 +22,6 @@ pub fn first_edition() -> Edition
 pub fn empty() -> [u8; 6]
     ensures { result ≡ encode first_edition [] }
 {
-    let e = first_edition();
+    let e = first_edition().edition;
     [0, 0, 0, 0, e.first, e.second]
 }

@@ -19,7 +19,13 @@ pub struct Edition {
     pub size: usize,
     pub first: u8,
     pub second: u8,
-    pub ghost sized: { Sized size },
+}
+
+// An edition whose size serves, as the calls take it. The theorems speak of every edition.
+#[derive(Clone, Copy)]
+pub struct SizedEdition {
+    pub edition: Edition,
+    pub ghost sized: { Sized edition.size },
 }
 
 // Where a title stands in its archive, and its length.

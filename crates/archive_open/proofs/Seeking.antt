@@ -6,15 +6,14 @@ use Rattle.refusal.specs.declared.Refusal.TheVariants.{Record}
 use Rattle.octets.specs.Octets.{word4}
 use Rattle.archive_format.specs.Archive.{find_in, record_number, next_at, filed_at, filed_from}
 use Rattle.archive_format.specs.Reading.{number_at, title_length}
-use Rattle.archive_open.specs.declared.Archive.{Archive}
-use Rattle.archive_open.specs.Walking.{Walk, walk, walk_fits, walk_on}
+use Rattle.archive_open.specs.Walking.{Walk, walk_fits, walk_on}
 
 pub record Seeking (size : ℕ) (l : List ℕ) (count number left place : ℕ) : Type 0 where
   pub walk : Walk size l left place
   pub same : find_in size 0 (filed_from size count l 0) number ≡ find_in size place (filed_from size left l place) number
 
-pub seek_start : (a : Archive) (number : ℕ) → Seeking a.edition.size a.bytes.now a.count number (a.count - 0) 0
-seek_start a number = rw sub-zero (record { walk = walk a; same = refl })
+pub seek_start : {size : ℕ} {l : List ℕ} {count number : ℕ} → Walk size l count 0 → Seeking size l count number (count - 0) 0
+seek_start w = rw sub-zero (record { walk = w; same = refl })
 
 module _ {size : ℕ} {l : List ℕ} {count number left place : ℕ} (w : Seeking size l count number left place) where
   module _ {n : ℕ} (h4 : 4 ≤ size) (en : n ≡ word4 l place) where

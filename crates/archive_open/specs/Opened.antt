@@ -1,5 +1,5 @@
 -- What opening an archive answers, and what that says of its reading.
-use Rattle.std.specs.Prelude.{ℕ, ◌+◌, ◌*◌, ◌≡◌, refl, true, List, length, Ok, Err}
+use Rattle.std.specs.Prelude.{ℕ, ◌+◌, ◌*◌, ◌≡◌, true, List, length, Ok, Err}
 use Rattle.std.proofs.Common.{sym, ◌∙◌}
 use Rattle.refusal.specs.Refusal.{Or}
 use Rattle.archive_format.specs.declared.Edition.{Edition}
@@ -22,27 +22,21 @@ pub record Held (e : Edition) (l : List ℕ) (count t last : ℕ) : Type 0 where
   pub last_is : last ≡ last_number 0 fs
   pub read : Reads e l fs
 
+-- an archive that reads, by its count, its trailer's place and its last number
+pub held_of : {e : Edition} {l : List ℕ} {count t last : ℕ} (fs : List Filed) → decode e l ≡ Ok fs → count ≡ length fs → t ≡ length (body fs)
+    → last ≡ last_number 0 fs → Held e l count t last
+held_of {e} {l} fs r count-is trailer-is last-is =
+    let m : Reads e l fs = reads e l fs r in
+    record { fs = fs; is = r; count_is = count-is ∙ sym m.count; trailer_is = trailer-is ∙ sym m.trailer; last_is = last-is; read = m }
+
 pub holds : (a : Archive) → Held a.edition a.bytes.now a.count a.trailer a.last
 holds a =
     let fs : List Filed = filed_from a.edition.size a.count a.bytes.now 0 in
     let m : Reads a.edition a.bytes.now fs = reads a.edition a.bytes.now fs a.read in
-    record {
-      fs = fs;
-      is = a.read;
-      count_is = sym (filed_length a.edition.size a.count a.bytes.now 0) ∙ sym m.count;
-      trailer_is = a.ends;
-      last_is = a.lasts;
-      read = m;
-    }
+    held_of fs a.read (sym (filed_length a.edition.size a.count a.bytes.now 0)) (a.ends ∙ m.trailer) a.lasts
 
 pub held : {e : Edition} {l : List ℕ} (a : Archive) → Opens e l (Ok a) → Held e l a.count a.trailer a.last
 held a o = rw o.0 at (rw o.1 at (holds a))
-
--- of whatever reads, opened or not
-pub held_by : (e : Edition) (l : List ℕ) (fs : List Filed) → decode e l ≡ Ok fs → Held e l (length fs) (length (body fs)) (last_number 0 fs)
-held_by e l fs r =
-    let m : Reads e l fs = reads e l fs r in
-    record { fs = fs; is = r; count_is = sym m.count; trailer_is = sym m.trailer; last_is = refl; read = m }
 
 module _ (e : Edition) (l : List ℕ) {count t last : ℕ} (h : Held e l count t last) where
   pub held_run : runs e.size count l t 0 t ≡ true

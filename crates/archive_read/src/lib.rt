@@ -5,21 +5,21 @@
 ghost use Rattle.std.specs.Prelude.{◌≡◌};
 ghost use Rattle.archive_format.specs.Archive.{count_of, place_of, find_of, title_part_of, title_of, first_edition};
 
-use archive_format::{Edition, TitlePart, first_edition};
+use archive_format::{SizedEdition, TitlePart, first_edition};
 use archive_open::{Archive, place_at};
 use refusal::{Refusal, need};
 
 #[tactic(auto, unfolding(archive_format::specs::Archive::count_of))]
-fn count_in(e: Edition, s: &[u8]) -> Result<usize, Refusal>
-    ensures { result ≡ count_of e s.now }
+fn count_in(e: SizedEdition, s: &[u8]) -> Result<usize, Refusal>
+    ensures { result ≡ count_of e.edition s.now }
 {
     let archive = Archive::open(e, s)?;
     Ok(archive.count)
 }
 
 #[tactic(auto, unfolding(archive_format::specs::Archive::place_of, refusal::specs::Refusal::need))]
-fn place_in(e: Edition, s: &[u8], i: usize) -> Result<usize, Refusal>
-    ensures { result ≡ place_of e s.now i }
+fn place_in(e: SizedEdition, s: &[u8], i: usize) -> Result<usize, Refusal>
+    ensures { result ≡ place_of e.edition s.now i }
 {
     let archive = Archive::open(e, s)?;
     need(Refusal::Record, i < archive.count)?;
@@ -27,21 +27,21 @@ fn place_in(e: Edition, s: &[u8], i: usize) -> Result<usize, Refusal>
 }
 
 #[tactic(auto, unfolding(archive_format::specs::Archive::find_of))]
-fn find_in(e: Edition, s: &[u8], number: u32) -> Result<usize, Refusal>
-    ensures { result ≡ find_of e s.now number }
+fn find_in(e: SizedEdition, s: &[u8], number: u32) -> Result<usize, Refusal>
+    ensures { result ≡ find_of e.edition s.now number }
 {
     let archive = Archive::open(e, s)?;
-    archive.seek(number)
+    archive_open::seek(archive.edition.size, archive.bytes, archive.count, number)
 }
 
 #[tactic(auto, unfolding(archive_format::specs::Archive::title_part_of))]
-fn title_part_in(e: Edition, s: &[u8], number: u32) -> Result<TitlePart, Refusal>
-    ensures { result ≡ title_part_of e s.now number }
+fn title_part_in(e: SizedEdition, s: &[u8], number: u32) -> Result<TitlePart, Refusal>
+    ensures { result ≡ title_part_of e.edition s.now number }
 {
     let at = find_in(e, s, number)?;
     Ok(TitlePart {
-        place: at + e.size + 1,
-        length: usize::from(s[at + e.size]),
+        place: at + e.edition.size + 1,
+        length: usize::from(s[at + e.edition.size]),
     })
 }
 

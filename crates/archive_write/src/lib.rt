@@ -59,6 +59,7 @@ fn put_grown(
 }
 
 // Writes an archive that was read, with one record more, and hands back its length.
+// The archive's parts one by one: it asks only that the bytes fit, and an `Archive` would ask of its caller that it reads.
 pub fn grow(
     e: Edition,
     s: &[u8],

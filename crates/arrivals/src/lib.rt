@@ -2,29 +2,84 @@
 // Access begins the runs; then each signalised entry's arrivals are added, pair by pair, where they land.
 #![tactic(auto)]
 
-ghost use Rattle.std.specs.Prelude.{◌≡◌, ◌+◌, ◌-◌, ◌*◌, ◌≤◌, ◌<◌, length};
+ghost use Rattle.std.specs.Prelude.{◌≡◌, ◌+◌, ◌*◌, ◌≤◌, ◌<◌, ℕ, List, [], ◌∷◌, ⊤, refl, length};
 ghost use Rattle.signal.specs.Landing.{added};
-ghost use Rattle.pair_parts.specs.PairParts.{part_of, rest_of, pair_arrivals};
+ghost use Rattle.pair_parts.specs.PairParts.{parts, pair_arrivals};
+ghost use Rattle.pair_parts.proofs.Laws.{parts_none};
 ghost use Rattle.arrivals.specs.Arrivals.{LandsFit, PairFits, EntryFits, begun, entry_added};
 
 use signal::Step;
 
-// A pair's part of one arrival, and what is carried to the next.
+// What of each arrival is added to a run, in turn.
+trait Share {
+    // the parts of arrivals that are to come
+    ghost parts: { Self → List ℕ → List ℕ };
+    // what keeps each part within its arrival
+    ghost fair: { Self → Type 0 };
+
+    // The next arrival's part.
+    fn part(&mut self, arrival: u32) -> u32
+        requires { fair self.old }
+        ensures fair { fair self.new }
+        ensures part { (rest : List ℕ) → parts self.old (arrival ∷ rest) ≡ result ∷ parts self.new rest }
+        ensures no_more { result ≤ arrival };
+
+    // none are left
+    ghost none: { (s : Self) → parts s [] ≡ [] };
+}
+
+// All of it.
 #[derive(Clone, Copy)]
-struct Part {
-    flow: u32,
+struct Whole;
+
+impl Share for Whole {
+    ghost parts = { λ s arrived. arrived };
+
+    ghost fair = { λ s. ⊤ };
+
+    fn part(&mut self, arrival: u32) -> u32 {
+        arrival
+    }
+
+    ghost none = { λ s. refl };
+}
+
+// A pair's part v / w in whole numbers, with the remainder that is carried to the next.
+#[derive(Clone, Copy)]
+struct Pair {
+    v: u32,
+    w: u32,
     carry: u32,
 }
 
-fn part_of(arrival: u32, v: u32, w: u32, carry: u32) -> Part
-    requires { (v ≤ w) × (carry < w) }
-    ensures { (result.flow ≡ part_of v w carry arrival) × (result.carry ≡ rest_of v w carry arrival) }
+impl Share for Pair {
+    ghost parts = { λ s arrived. parts s.v s.w s.carry arrived };
+
+    ghost fair = { λ s. (s.v ≤ s.w) × (s.carry < s.w) };
+
+    #[tactic(auto, using(pair_parts::proofs::Laws::part_le, pair_parts::proofs::Laws::rest_lt), unfolding(pair_parts::specs::PairParts::parts))]
+    fn part(&mut self, arrival: u32) -> u32 {
+        let whole = u64::from(arrival) * u64::from(self.v) + u64::from(self.carry);
+        let by = u64::from(self.w);
+        self.carry = (whole % by) as u32;
+        (whole / by) as u32
+    }
+
+    ghost none = { λ s. parts_none s.v s.w s.carry };
+}
+
+// The part of each arrival is added to a run where its step lands.
+fn add_parts<S: Share + Copy>(arrived: &[u32], mut share: S, t: u32, run: &mut [u32])
+    requires fits { LandsFit t arrived.now run.old }
+    requires fair { S.fair share }
+    ensures { run.new ≡ added (length run.old) t 1 (S.parts share arrived.now) run.old }
 {
-    let whole = u64::from(arrival) * u64::from(v) + u64::from(carry);
-    let by = u64::from(w);
-    Part {
-        flow: (whole / by) as u32,
-        carry: (whole % by) as u32,
+    let c = run.len() as u32;
+    let mut lands = signal::later(c, Step(1), t);
+    for arrival in arrived {
+        let at = signal::index(lands);
+        run[at] += share.part(*arrival);
+        lands = signal::next(c, lands);
     }
 }
 
@@ -36,16 +91,7 @@ fn add_pair(arrived: &[u32], v: u32, w: u32, t: u32, run: &mut [u32])
     if v == 0 {
         return;
     }
-    let c = run.len() as u32;
-    let mut lands = signal::later(c, Step(1), t);
-    let mut carry: u32 = 0;
-    for arrival in arrived {
-        let piece = part_of(*arrival, v, w, carry);
-        let at = signal::index(lands);
-        run[at] += piece.flow;
-        carry = piece.carry;
-        lands = signal::next(c, lands);
-    }
+    add_parts(arrived, Pair { v, w, carry: 0 }, t, run);
 }
 
 // Arrivals are added to a run, whole, where their steps land.
@@ -53,13 +99,7 @@ pub fn add_whole(arrived: &[u32], t: u32, run: &mut [u32])
     requires { LandsFit t arrived.now run.old }
     ensures { run.new ≡ added (length run.old) t 1 arrived.now run.old }
 {
-    let c = run.len() as u32;
-    let mut step = signal::later(c, Step(1), t);
-    for arrival in arrived {
-        let at = signal::index(step);
-        run[at] += *arrival;
-        step = signal::next(c, step);
-    }
+    add_parts(arrived, Whole, t, run);
 }
 
 // One entry: to each of the four runs its pair's arrivals are added.

@@ -2,32 +2,32 @@
 #![tactic(auto)]
 
 ghost use Rattle.std.specs.Prelude.{◌≡◌, ◌*◌, ◌≤◌, length};
-ghost use Rattle.ranges.specs.Ranges.{Ranges};
 ghost use Rattle.entries.specs.Entries.{entry_profiles};
 ghost use Rattle.discharge.specs.Discharge.{Calls, accept_of, volumes_of};
 
 use movements::Signalised;
+use ranges::Accepted;
 use refusal::{Refusal, need};
-use segment::Segment;
 
 // Every refusal of the call, before anything is written.
 #[tactic(auto, unfolding(validation::specs::Accepting::accept_with, refusal::specs::Refusal::need))]
-fn accept(bytes: &[u8], room: usize) -> Result<Segment, Refusal>
+fn accept(bytes: &[u8], room: usize) -> Result<Accepted, Refusal>
     ensures { result ≡ accept_of bytes.now room }
 {
-    let s = validation::check(bytes)?;
-    need(Refusal::ProfileRoom, 3 * u64::from(s.cycle) <= room as u64)?;
-    Ok(s)
+    let accepted = validation::check(bytes)?;
+    let cycle = u64::from(accepted.segment.cycle);
+    need(Refusal::ProfileRoom, 3 * cycle <= room as u64)?;
+    Ok(accepted)
 }
 
 #[tactic(auto, unfolding(metering::specs::Metering::discharge_volumes))]
-fn write(s: Segment, profile: &mut [u32]) -> Signalised<u32>
-    requires { Ranges s × (3 * s.cycle ≤ length profile.old) }
-    ensures value { result ≡ volumes_of s }
-    ensures profile_after { profile.new ≡ entry_profiles s profile.old }
+fn write(accepted: Accepted, profile: &mut [u32]) -> Signalised<u32>
+    requires { 3 * accepted.cycle ≤ length profile.old }
+    ensures value { result ≡ volumes_of accepted }
+    ensures profile_after { profile.new ≡ entry_profiles accepted profile.old }
 {
-    let o = metering::discharge_volumes(s);
-    entries::fill_profiles(s, o, profile);
+    let o = metering::discharge_volumes(accepted);
+    entries::fill_profiles(accepted, o, profile);
     Signalised {
         left: o.left,
         through: o.through,
@@ -39,6 +39,6 @@ fn write(s: Segment, profile: &mut [u32]) -> Signalised<u32>
 pub fn discharge(bytes: &[u8], profile: &mut [u32]) -> Result<Signalised<u32>, Refusal>
     ensures { Calls bytes.now profile.old result profile.new }
 {
-    let s = accept(bytes, profile.len())?;
-    Ok(write(s, profile))
+    let accepted = accept(bytes, profile.len())?;
+    Ok(write(accepted, profile))
 }

@@ -34,62 +34,63 @@ pub fn arrival_time(running: u32) -> u32
     ((862 * u64::from(running) + 435000) / 1000000) as u32
 }
 
-// One step.
-fn step(running: u32, discharge: u32, state: PlatoonState) -> PlatoonState
-    requires running_le_most_running { running ≤ most_running }
-    requires carry_bound { state.carry < divisor_of running }
-    ensures { result ≡ step_of running discharge state }
-{
-    let d = divisor(running);
-    let made = SMOOTHING * u64::from(discharge)
-        + (d - SMOOTHING) * u64::from(state.level)
-        + u64::from(state.carry);
-    PlatoonState {
-        level: (made / d) as u32,
-        carry: (made % d) as u32,
-    }
+// A platoon on its way along a segment of that running time, in the state that its last step left.
+#[derive(Clone, Copy)]
+struct Platoon {
+    running: u32,
+    state: PlatoonState,
+    ghost within: { running ≤ most_running },
+    ghost carried: { state.carry < divisor_of running },
 }
 
-// One cycle: the arrivals go to the front of the profile, whose numbers beyond stay.
-fn disperse(
-    running: u32,
-    discharge: &[u32],
-    profile: &mut [u32],
-    from: PlatoonState,
-) -> PlatoonState
-    requires running_le_most_running { running ≤ most_running }
-    requires carry_bound { from.carry < divisor_of running }
-    requires discharge_in_bounds { length discharge.now ≤ length profile.old }
-    ensures value { result ≡ state_after running discharge.now from }
-    ensures profile_after { profile.new ≡ cycle_written running discharge.now from profile.old }
-{
-    let mut state = from;
-    for (i, q) in discharge.iter().enumerate() {
-        state = step(running, *q, state);
-        profile[i] = state.level;
+impl Platoon {
+    // One step.
+    fn step(self, discharge: u32) -> PlatoonState
+        ensures { result ≡ step_of self.running discharge self.state }
+    {
+        let d = divisor(self.running);
+        let made = SMOOTHING * u64::from(discharge)
+            + (d - SMOOTHING) * u64::from(self.state.level)
+            + u64::from(self.state.carry);
+        PlatoonState {
+            level: (made / d) as u32,
+            carry: (made % d) as u32,
+        }
     }
-    state
-}
 
-// Cycle k, from 0, into the profile whose turn it is.
-fn work_cycle(
-    running: u32,
-    discharge: &[u32],
-    first: &mut [u32],
-    second: &mut [u32],
-    k: u32,
-    from: PlatoonState,
-) -> PlatoonState
-    requires running_le_most_running { running ≤ most_running }
-    requires carry_bound { from.carry < divisor_of running }
-    requires discharge_in_bounds { (length discharge.now ≤ length first.old) × (length discharge.now ≤ length second.old) }
-    ensures { work result first.new second.new
-        ≡ cycle_worked running discharge.now k (work from first.old second.old) }
-{
-    if k % 2 == 0 {
-        return disperse(running, discharge, first, from);
+    // One cycle: the arrivals go to the front of the profile, whose numbers beyond stay.
+    fn disperse(self, discharge: &[u32], profile: &mut [u32]) -> PlatoonState
+        requires discharge_in_bounds { length discharge.now ≤ length profile.old }
+        ensures value { result ≡ state_after self.running discharge.now self.state }
+        ensures profile_after { profile.new ≡ cycle_written self.running discharge.now self.state profile.old }
+    {
+        let running = self.running;
+        let mut state = self.state;
+        for (i, q) in discharge.iter().enumerate() {
+            let platoon = Platoon { running, state };
+            state = platoon.step(*q);
+            profile[i] = state.level;
+        }
+        state
     }
-    disperse(running, discharge, second, from)
+
+    // Cycle k, from 0, into the profile whose turn it is: two are lent, and the cycles alternate between them.
+    fn work_cycle(
+        self,
+        discharge: &[u32],
+        first: &mut [u32],
+        second: &mut [u32],
+        k: u32,
+    ) -> PlatoonState
+        requires discharge_in_bounds { (length discharge.now ≤ length first.old) × (length discharge.now ≤ length second.old) }
+        ensures { work result first.new second.new
+            ≡ cycle_worked self.running discharge.now k (work self.state first.old second.old) }
+    {
+        if k % 2 == 0 {
+            return self.disperse(discharge, first);
+        }
+        self.disperse(discharge, second)
+    }
 }
 
 // How many cycles need working once so many are. Where the last of them left the state in which it began,
@@ -132,7 +133,8 @@ pub fn alternate(
         if k == needed {
             return state;
         }
-        let next = work_cycle(running, discharge, first, second, k, state);
+        let platoon = Platoon { running, state };
+        let next = platoon.work_cycle(discharge, first, second, k);
         needed = cycles_needed(k + 1, 1, needed, state, next);
         state = next;
     }
@@ -153,7 +155,8 @@ pub fn disperse_last(running: u32, discharge: &[u32], profile: &mut [u32], cycle
         if k == needed {
             return;
         }
-        let next = disperse(running, discharge, profile, state);
+        let platoon = Platoon { running, state };
+        let next = platoon.disperse(discharge, profile);
         needed = cycles_needed(k + 1, 0, needed, state, next);
         state = next;
     }

@@ -5,7 +5,8 @@ ghost use Rattle.std.specs.Prelude.{◌≡◌};
 ghost use Rattle.entries.specs.Entries.{ProfileFits, ProfilesFit, entry_profile, entry_profiles};
 
 use movements::Counts;
-use segment::{Entry, Segment};
+use ranges::Accepted;
+use segment::Entry;
 
 // An entry's profile, from its discharge volume, over a run of the cycle's length.
 #[tactic(auto, unfolding(crate::specs::Entries::entry_profile), using(crate::specs::Laws::discharge_volume_le))]
@@ -18,10 +19,11 @@ pub fn fill_profile(c: u32, e: Entry, o: u32, run: &mut [u32])
 
 // The three profiles, from the discharge volumes, to the front of a lent profile: runs of the cycle's length, entries in order.
 #[tactic(auto, unfolding(crate::specs::Entries::entry_profiles, metering::specs::Metering::discharge_volumes))]
-pub fn fill_profiles(s: Segment, o: Counts, profile: &mut [u32])
-    requires { ProfilesFit s o profile.old }
-    ensures { profile.new ≡ entry_profiles s profile.old }
+pub fn fill_profiles(accepted: Accepted, o: Counts, profile: &mut [u32])
+    requires { ProfilesFit accepted o profile.old }
+    ensures { profile.new ≡ entry_profiles accepted profile.old }
 {
+    let s = accepted.segment;
     let c = s.cycle as usize;
     let (left, rest) = profile.split_at_mut(c);
     let (through, rest) = rest.split_at_mut(c);

@@ -98,7 +98,7 @@ fn file(rt: &impl Print, record: &[u8]) -> io::Result<()> {
 
 fn check(rt: &impl Print, record: &[u8]) -> io::Result<()> {
     match validation::check(record) {
-        Ok(segment) => say(rt, "cycle", segment.cycle as u64),
+        Ok(accepted) => say(rt, "cycle", accepted.segment.cycle as u64),
         Err(refusal) => refused(rt, refusal.number()),
     }
 }

@@ -7,7 +7,7 @@ ghost use Rattle.lists.specs.Lists.{sum};
 ghost use Rattle.signal.specs.Greens.{GreenFits};
 ghost use Rattle.exit_figures.specs.ExitFigures.{total_bound, green_flow, permille_of, figures_of, blocked, blocked_steps};
 
-use signal::Green;
+use signal::{Green, Timing};
 
 // One vehicle, 3600000 flow units, in the 1000 ms of a step: a flow times a headway in ms that is more leaves no headway free.
 const CRITICAL_PRODUCT: u64 = 3600000000;
@@ -21,49 +21,14 @@ pub struct ExitFigures {
     pub permille: u32,
 }
 
-pub fn total(run: &[u32]) -> u64
-    requires { length run.now < step_bound }
-    ensures { result ≡ sum run.now }
-{
-    run.iter().map(|flow| u64::from(*flow)).sum()
-}
-
-fn green_flow(green: Green, run: &[u32]) -> u64
-    requires { (length run.now < step_bound) × GreenFits (length run.now) green }
-    ensures { result ≡ green_flow green run.now }
-{
-    let c = run.len() as u32;
-    let mut arrived: u64 = 0;
-    for (k, flow) in run.iter().enumerate() {
-        if signal::in_green(c, green, signal::step_at(k)) {
-            arrived += u64::from(*flow);
-        }
-    }
-    arrived
-}
-
 fn permille(part: u64, whole: u64) -> u32
-    requires { (part ≤ whole) × (whole < total_bound) }
+    requires { (part ≤ whole) × (part < total_bound) }
     ensures { result ≡ permille_of part whole }
 {
     if whole == 0 {
         return 0;
     }
     (1000 * part / whole) as u32
-}
-
-// The figures of a signalised exit, its run a cycle.
-pub fn figures(green: Green, run: &[u32]) -> ExitFigures
-    requires { (length run.now < step_bound) × GreenFits (length run.now) green }
-    ensures { result ≡ figures_of green run.now }
-{
-    let all = total(run);
-    let part = green_flow(green, run);
-    ExitFigures {
-        total: all,
-        green: part,
-        permille: permille(part, all),
-    }
 }
 
 // Whether a flow leaves no critical headway, in ms, in its step.
@@ -74,11 +39,55 @@ fn is_blocked(flow: u32, headway: u32) -> bool
     CRITICAL_PRODUCT < u64::from(flow) * u64::from(headway)
 }
 
-pub fn blocked_steps(headway: u32, run: &[u32]) -> u32
-    requires { length run.now < step_bound }
-    ensures { result ≡ blocked_steps headway run.now }
-{
-    run.iter()
-        .filter(|flow| is_blocked(**flow, headway))
-        .count() as u32
+// A run: what arrives in each step of its cycle.
+#[derive(Clone, Copy)]
+pub struct Run<'a> {
+    pub steps: &'a [u32],
+    pub ghost short: { length steps.now < step_bound },
+}
+
+impl<'a> Run<'a> {
+    pub fn total(self) -> u64
+        ensures { result ≡ sum self.entry.steps.now }
+    {
+        self.steps.iter().map(|flow| u64::from(*flow)).sum()
+    }
+
+    // A `for`, since a closure under `enumerate` is not told that the step's number is below the length.
+    fn green_flow(self, timing: Timing) -> u64
+        requires { timing.cycle ≡ length self.steps.now }
+        ensures { (result ≡ green_flow timing.green self.entry.steps.now) × (result < total_bound) }
+    {
+        let mut arrived: u64 = 0;
+        for (k, flow) in self.steps.iter().enumerate() {
+            if timing.in_green(signal::step_at(k)) {
+                arrived += u64::from(*flow);
+            }
+        }
+        arrived
+    }
+
+    // The figures of a signalised exit, its run a cycle.
+    pub fn figures(self, green: Green) -> ExitFigures
+        requires { GreenFits (length self.steps.now) green }
+        ensures { result ≡ figures_of green self.entry.steps.now }
+    {
+        let cycle = self.steps.len() as u32;
+        let all = self.total();
+        let part = self.green_flow(Timing { cycle, green });
+        ExitFigures {
+            total: all,
+            green: part,
+            permille: permille(part, all),
+        }
+    }
+
+    pub fn blocked_steps(self, headway: u32) -> u32
+        ensures { result ≡ blocked_steps headway self.entry.steps.now }
+    {
+        self.steps
+            .iter()
+            .filter(|flow| is_blocked(**flow, headway))
+            .count() as u32
+    }
 }

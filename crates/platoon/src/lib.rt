@@ -8,7 +8,7 @@ ghost use Rattle.signal.specs.Landing.{added};
 ghost use Rattle.platoon.specs.Discharge.{cycle_bound, green_flows, profile_of, queue_of, served_of};
 
 use movements::flow_units;
-use signal::Green;
+use signal::{Green, Timing};
 
 // The queue of a green: what waits as it starts, what arrives while it lasts, what a step can serve.
 #[derive(Clone, Copy)]
@@ -45,20 +45,19 @@ fn arrived(gone: u32, arriving: u64, g: u32) -> u64
 }
 
 // Serves the queue step by step of the green, into an empty cycle.
-fn release(green: Green, queue: Queue, run: &mut [u32])
-    requires run_len_bound { (length run.old < step_bound) × GreenFits (length run.old) green }
+fn release(timing: Timing, queue: Queue, run: &mut [u32])
+    requires run_is_cycle { timing.cycle ≡ length run.old }
     requires waiting_le_cycle_bound { (queue.waiting ≤ cycle_bound) × (queue.arriving ≤ cycle_bound) }
     requires run_value { run.old ≡ replicate (length run.old) 0 }
-    ensures { run.new ≡ added (length run.old) green.start.0 1 (green_flows green.steps queue) run.old }
+    ensures { run.new ≡ added (length run.old) timing.green.start.0 1 (green_flows timing.green.steps queue) run.old }
 {
-    let c = run.len() as u32;
-    let g = green.steps;
+    let g = timing.green.steps;
     let mut waiting = queue.waiting;
     let mut passed: u64 = 0;
     for gone in 0..g {
         let reached = arrived(gone, queue.arriving, g);
         let step = serve(waiting + (reached - passed), queue.rate);
-        let at = signal::index(signal::green_step(c, green, gone + 1));
+        let at = signal::index(timing.green_step(gone + 1));
         run[at] += step.flow;
         waiting = step.waiting;
         passed = reached;
@@ -87,6 +86,7 @@ pub fn discharge_profile(green: Green, saturation: u32, arriving: u32, volume: u
     ensures { run.new ≡ profile_of (length run.old) green saturation arriving volume }
 {
     runs::fill(run, 0);
-    let queue = queue_of(run.len() as u32, saturation, arriving, volume);
-    release(green, queue, run);
+    let cycle = run.len() as u32;
+    let queue = queue_of(cycle, saturation, arriving, volume);
+    release(Timing { cycle, green }, queue, run);
 }

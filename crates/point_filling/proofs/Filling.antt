@@ -6,6 +6,7 @@ use Rattle.std.proofs.Math.Nat.{sub-zero}
 use Rattle.std.proofs.Math.Seq.{sets, sets-eq}
 use Rattle.runs.specs.PerRun.{Worked, worked_start, part, part_length, worked_turn, worked_done}
 use Rattle.segment.specs.declared.Segment.{Segment}
+use Rattle.ranges.specs.Ranges.{Ranges}
 use Rattle.points.specs.declared.Point.{Point}
 use Rattle.points.specs.declared.Points.{Points}
 use Rattle.points.specs.Points.{most_points, all_fit}
@@ -36,12 +37,12 @@ filling_start s ps out few = record { few = few; runs = worked_start _ _ _ _ _; 
 module _ {s : Segment} {ps : List Point} {out₀ out blocked : List ℕ} {i : ℕ} (r : Filling s ps out₀ out blocked i) where
   module _ (more : i < length ps) (d : Point) (room : length ps * s.cycle ≤ length out₀) where
     -- what a point asks
-    pub filling_fits : {discharges : List ℕ} → Discharged s discharges → all_fit s.running ps ≡ true →
+    pub filling_fits : Ranges s → {discharges : List ℕ} → Discharged s discharges → all_fit s.running ps ≡ true →
         PointFits s (get_or ps i d) discharges (part s.cycle i out)
-    filling_fits h fit =
+    filling_fits ranges h fit =
         record {
           discharged = h;
-          time = omega (arith, all_far s.running ps d i fit more, h.ranges.running);
+          time = omega (arith, all_far s.running ps d i fit more, ranges.running);
           long = part_length r.runs more room;
         }
 

@@ -2,7 +2,6 @@
 use Rattle.std.specs.Prelude.{ℕ, ◌*◌, ◌≤◌, ◌<◌, true, ◌≡◌, List, length, get_or}
 use Rattle.limits.specs.Limits.{most_cycle, most_running}
 use Rattle.segment.specs.declared.Segment.{Segment}
-use Rattle.ranges.specs.Ranges.{Ranges}
 use Rattle.entries.specs.Entries.{EntryRuns}
 use Rattle.arrivals.specs.Arrivals.{arrival_limit, run_limit}
 use Rattle.points.specs.declared.Point.{Point}
@@ -20,7 +19,6 @@ pub record PassFits (running : ℕ) (discharge run : List ℕ) : Type 0 where
 
 -- the record's three discharges
 pub record Discharged (s : Segment) (discharges : List ℕ) : Type 0 where
-  pub ranges : Ranges s
   pub entries : EntryRuns s discharges
   pub long : 3 * s.cycle ≤ length discharges
 
@@ -32,7 +30,6 @@ pub record PointFits (s : Segment) (p : Point) (discharges run : List ℕ) : Typ
 
 -- at most eight points, each on the segment, and room for a run of each
 pub record FillFits (s : Segment) (ps : Points) (out : List ℕ) : Type 0 where
-  pub ranges : Ranges s
   pub few : ps.count ≤ most_points
   pub fit : all_fit s.running (given ps) ≡ true
   pub room : s.cycle * ps.count ≤ length out

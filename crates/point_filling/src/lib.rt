@@ -9,8 +9,9 @@ ghost use Rattle.points.specs.Points.{given};
 ghost use Rattle.point_flows.specs.PointFlows.{point_run, point_blocked, point_runs, point_counts};
 ghost use Rattle.point_filling.specs.Steps.{PassFits, PointFits, EachFits, FillFits};
 
+use exit_figures::Run;
 use points::{Point, Points};
-use segment::Segment;
+use ranges::Accepted;
 
 // One entry: its discharge dispersed by the point's running time, its whole arrivals added to the point's run where they land. The
 // cycles stand in an array of their own, so that the working's profiles keep the record's.
@@ -27,11 +28,12 @@ fn pass(running: u32, discharge: &[u32], run: &mut [u32])
 }
 
 // One point: access begins its run, then each signalised entry passes. Its blocked steps, by its own headway.
-fn fill_point(s: Segment, p: Point, discharges: &[u32], run: &mut [u32]) -> u32
-    requires { PointFits s p discharges.now run.old }
-    ensures run_after { run.new ≡ point_run s p }
-    ensures value { result ≡ point_blocked s p }
+fn fill_point(accepted: Accepted, p: Point, discharges: &[u32], run: &mut [u32]) -> u32
+    requires { PointFits accepted p discharges.now run.old }
+    ensures run_after { run.new ≡ point_run accepted p }
+    ensures value { result ≡ point_blocked accepted p }
 {
+    let s = accepted.segment;
     let one = s.cycle as usize;
     let two = one + one;
     let three = two + one;
@@ -39,45 +41,43 @@ fn fill_point(s: Segment, p: Point, discharges: &[u32], run: &mut [u32]) -> u32
     pass(p.running, &discharges[0..one], run);
     pass(p.running, &discharges[one..two], run);
     pass(p.running, &discharges[two..three], run);
-    exit_figures::blocked_steps(p.headway, &run[..])
+    Run { steps: &run[..] }.blocked_steps(p.headway)
 }
 
 // The points given, in order; the count of one that is not given is 0.
 fn fill_each(
-    s: Segment,
+    accepted: Accepted,
     points: Points,
     discharges: &[u32],
     out: &mut [u32],
 ) -> [u32; points::POINT_ROOM]
-    requires { EachFits s points discharges.now out.old }
-    ensures out_after { out.new ≡ point_runs s (given points) out.old }
-    ensures value { result ≡ point_counts s (given points) }
+    requires { EachFits accepted points discharges.now out.old }
+    ensures out_after { out.new ≡ point_runs accepted (given points) out.old }
+    ensures value { result ≡ point_counts accepted (given points) }
 {
-    let c = s.cycle as usize;
+    let c = accepted.segment.cycle as usize;
     let n = points.count as usize;
     let mut blocked = [0u32; points::POINT_ROOM];
     for (i, p) in points.at[0..n].iter().enumerate() {
         let at = i * c;
-        blocked[i] = fill_point(s, *p, discharges, &mut out[at..at + c]);
+        blocked[i] = fill_point(accepted, *p, discharges, &mut out[at..at + c]);
     }
     blocked
 }
 
 // Fills a run for each of the points given and counts its blocked steps. Each entry's discharge is made once, for all points, and
 // not at all where none is given.
-pub fn fill(s: Segment, points: Points, out: &mut [u32]) -> [u32; points::POINT_ROOM]
-    requires { FillFits s points out.old }
-    ensures out_after { out.new ≡ point_runs s (given points) out.old }
-    ensures value { result ≡ point_counts s (given points) }
+pub fn fill(accepted: Accepted, points: Points, out: &mut [u32]) -> [u32; points::POINT_ROOM]
+    requires { FillFits accepted points out.old }
+    ensures out_after { out.new ≡ point_runs accepted (given points) out.old }
+    ensures value { result ≡ point_counts accepted (given points) }
 {
     if points.count == 0 {
         return [0u32; points::POINT_ROOM];
     }
+    let three = 3 * accepted.segment.cycle as usize;
     let mut discharges = [0u32; limits::DISCHARGE_ROOM];
-    entries::fill_profiles(
-        s,
-        metering::discharge_volumes(s),
-        &mut discharges[0..limits::DISCHARGE_ROOM],
-    );
-    fill_each(s, points, &discharges[0..limits::DISCHARGE_ROOM], out)
+    let volumes = metering::discharge_volumes(accepted);
+    entries::fill_profiles(accepted, volumes, &mut discharges[..three]);
+    fill_each(accepted, points, &discharges[..three], out)
 }

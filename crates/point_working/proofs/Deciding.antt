@@ -50,22 +50,22 @@ module _ (s : Segment) (ps : Points) (p : Profiles) (q : List ℕ) (w : PointWor
   runs_written : q' ≡ point_runs s (given ps) q
   runs_written = ap (λ (d : PointCalled). d.passing) e ∙ ap (λ (x : Result Working Unworked). passing_after x s ps q) works
 
-  accurate_points : FillFits s ps q → ps.count ≤ length ps.at → PointsAccurate s ps q'
-  accurate_points h room = rw runs_written (points_accurate s ps q room h.ranges h.fit)
+  accurate_points : Ranges s → FillFits s ps q → ps.count ≤ length ps.at → PointsAccurate s ps q'
+  accurate_points r h room = rw runs_written (points_accurate s ps q room r h.fit)
 
 -- ---- what the record, the points and the lengths decide
 
 module _ (l : List ℕ) (ps : Points) (p : Profiles) (q : List ℕ) where
   abbrev accepts : Or Segment
-  accepts = accept_of l ps (length p.output) (length q) (length p.first) (length p.second)
+  accepts = accept_of l ps p (length q)
 
   passed : (s : Segment) → accepts ≡ Ok s → Accepted l s × Accepts s ps p q
   passed s e =
       let a = accept_passed l _ s e in
-      let t = both (fits (length p.output) (length p.first) (length p.second) s) (leb (s.cycle * ps.count) (length q)) (a.1 16) in
+      let t = both (fits p s) (leb (s.cycle * ps.count) (length q)) (a.1 16) in
       let few = leb-true ps.count most_points (a.1 19) in
-      let points : FillFits s ps q = record { ranges = a.0.ranges; few = few; fit = a.1 20; room = leb-true _ _ t.1 } in
-      (a.0, record { ranges = a.0.ranges; room = fits_room s p t.0; points = points })
+      let points : FillFits s ps q = record { few = few; fit = a.1 20; room = leb-true _ _ t.1 } in
+      (a.0, record { room = fits_room s p t.0; points = points })
 
   pub record_passed : (s : Segment) → accepts ≡ Ok s → Accepts s ps p q
   record_passed s e = (passed s e).1
@@ -76,14 +76,15 @@ module _ (l : List ℕ) (ps : Points) (p : Profiles) (q : List ℕ) where
   unfolding point_call_of
   record_worked eight s a r p' q' e =
       let same = (passed s a).0.is in
+      let ranges = (passed s a).0.ranges in
       let h = (passed s a).1.points in
       let room : ps.count ≤ length ps.at = omega (arith, eight, h.few) in
       let told : (w : PointWorking) → r ≡ Ok w → point_called (Ok w) p' q' ≡ with_points s ps (by_decision s (decision_for s) p) q =
       λ w o. ap (λ (x : Result PointWorking Unworked). point_called x p' q') (sym o) ∙ e in
       record {
         is = e ∙ rw a;
-        accurate = λ w o. subst (λ (u : Segment). Accurate u w.working.pairs.rows p') same (accurate_exits s ps p q w p' q' (told w o) h.ranges);
-        points = λ w o. subst (λ (u : Segment). PointsAccurate u ps q') same (accurate_points s ps p q w p' q' (told w o) h room);
+        accurate = λ w o. subst (λ (u : Segment). Accurate u w.working.pairs.rows p') same (accurate_exits s ps p q w p' q' (told w o) ranges);
+        points = λ w o. subst (λ (u : Segment). PointsAccurate u ps q') same (accurate_points s ps p q w p' q' (told w o) ranges h room);
       }
 
   -- refused for its record, its points or a profile's length

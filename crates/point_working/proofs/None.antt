@@ -31,18 +31,18 @@ module _ (ps : Points) (none : ps.count ≡ 0) where
   room c n = let e : c * ps.count ≡ c * 0 = ap (λ (m : ℕ). c * m) none in le-leb (c * ps.count) n (omega arith)
 
   -- 19 and 20 hold, and 16 is that of the other three profiles
-  tests_none : (o q f g : ℕ) (s : Segment) → first_failing (point_tests ps o q f g s) s ≡ first_failing (test ProfileRoom (working.fits o f g s) ∷ []) s
+  tests_none : (p : Profiles) (q : ℕ) (s : Segment) → first_failing (point_tests ps p q s) s ≡ first_failing (test ProfileRoom (working.fits p s) ∷ []) s
   unfolding need all_fit
-  tests_none o q f g s = rw (none_given ps none, room s.cycle q, and_true, none)
+  tests_none p q s = rw (none_given ps none, room s.cycle q, and_true, none)
 
-  accepts_none : (l : List ℕ) (o q f g : ℕ) → accept_of l ps o q f g ≡ working.accept_of l o f g
+  accepts_none : (l : List ℕ) (p : Profiles) (q : ℕ) → accept_of l ps p q ≡ working.accept_of l p
   unfolding accept_with
-  accepts_none l o q f g = go (check_of l)
+  accepts_none l p q = go (check_of l)
     where
-      go : (x : Or Segment) → and_then x (λ s. first_failing (point_tests ps o q f g s) s)
-          ≡ and_then x (λ s. first_failing (test ProfileRoom (working.fits o f g s) ∷ []) s)
+      go : (x : Or Segment) → and_then x (λ s. first_failing (point_tests ps p q s) s)
+          ≡ and_then x (λ s. first_failing (test ProfileRoom (working.fits p s) ∷ []) s)
       go (Err n) = refl
-      go (Ok s) = tests_none o q f g s
+      go (Ok s) = tests_none p q s
 
   -- no run is written, and none is counted: so the call is the call without, whatever it answers
   passing_none : (s : Segment) (r : Result Working Unworked) (q : List ℕ) → passing_after r s ps q ≡ q
@@ -63,8 +63,7 @@ module _ (ps : Points) (none : ps.count ≡ 0) where
   pub none_is : (l : List ℕ) (p : Profiles) (q : List ℕ) → point_call_of l ps p q ≡ without (working.call_of l p) q
   unfolding point_call_of working.call_of
   none_is l p q =
-      rw (accepts_none l (length p.output) (length q) (length p.first) (length p.second))
-      (record_none (working.accept_of l (length p.output) (length p.first) (length p.second)) p q)
+      rw (accepts_none l p (length q)) (record_none (working.accept_of l p) p q)
 
   -- ---- of the calls: what a call with none leaves is what the call without leaves
 

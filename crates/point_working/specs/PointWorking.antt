@@ -18,15 +18,15 @@ use Rattle.point_flows.specs.PointAccuracy.{PointsAccurate}
 use Rattle.point_working.specs.declared.PointWorking.{PointWorking}
 
 -- after the record's tests: more than eight points, a point that does not fit, a profile too short (a run for each point too)
-abbrev pub point_tests : Points → (output passing first second : ℕ) → Segment → List Test
-point_tests ps output passing first second s =
+abbrev pub point_tests : Points → Profiles → (passing : ℕ) → Segment → List Test
+point_tests ps p passing s =
     test PointCount (leb ps.count most_points)
     ∷ test PointRange (all_fit s.running (given ps))
-    ∷ test ProfileRoom (fits output first second s && leb (s.cycle * ps.count) passing)
+    ∷ test ProfileRoom (fits p s && leb (s.cycle * ps.count) passing)
     ∷ []
 
-abbrev pub accept_of : List ℕ → Points → (output passing first second : ℕ) → Or Segment
-accept_of l ps output passing first second = accept_with l (point_tests ps output passing first second)
+abbrev pub accept_of : List ℕ → Points → Profiles → (passing : ℕ) → Or Segment
+accept_of l ps p passing = accept_with l (point_tests ps p passing)
 
 -- no point counted
 abbrev pub none_blocked : List ℕ
@@ -63,7 +63,7 @@ by_record (Err refusal) ps p q = point_called (Err (Refused refusal)) p q
 by_record (Ok s) ps p q = with_points s ps (by_decision s (decision_for s) p) q
 
 unfoldable pub point_call_of : List ℕ → Points → Profiles → List ℕ → PointCalled
-point_call_of l ps p q = by_record (accept_of l ps (length p.output) (length q) (length p.first) (length p.second)) ps p q
+point_call_of l ps p q = by_record (accept_of l ps p (length q)) ps p q
 
 -- the call as called: its answer and all four profiles; demand 3, and every point's run near the exact flow, of all that it accepts
 pub record PointWorks (l : List ℕ) (ps : Points) (p : Profiles) (q : List ℕ) (r : Result PointWorking Unworked) (p' : Profiles) (q' : List ℕ) : Type 0 where

@@ -2,15 +2,16 @@
 #![tactic(auto)]
 
 ghost use Rattle.std.specs.Prelude.{◌≡◌};
-ghost use Rattle.propagation.specs.Propagation.{lent};
+ghost use Rattle.propagation.specs.Propagation.{Same, held};
 ghost use Rattle.working.specs.Working.{by_decision, decision_for};
 ghost use Rattle.point_working.specs.PointWorking.{PointWorks, accept_of, point_called, with_points};
 ghost use Rattle.point_working.specs.Steps.{Accepts};
 
 use balance_decision::Unworked;
 use points::Points;
+use propagation::LentProfiles;
+use ranges::Accepted;
 use refusal::{Refusal, need};
-use segment::Segment;
 use working_outcome::Working;
 
 // A working, and the blocked steps at each point; 0 for the points that are not given.
@@ -25,37 +26,35 @@ pub struct PointWorking {
 fn accept(
     bytes: &[u8],
     points: Points,
-    output: usize,
+    profiles: &LentProfiles,
     passing: usize,
-    first: usize,
-    second: usize,
-) -> Result<Segment, Refusal>
-    ensures { result ≡ accept_of bytes.now points output passing first second }
+) -> Result<Accepted, Refusal>
+    ensures { result ≡ accept_of bytes.now points (held profiles.now) passing }
 {
-    let s = validation::check(bytes)?;
+    let accepted = validation::check(bytes)?;
+    let s = accepted.segment;
     need(Refusal::PointCount, points.count <= points::MOST_POINTS)?;
     need(Refusal::PointRange, points::all_fit(s.running, points))?;
     let runs = u64::from(s.cycle) * u64::from(points.count);
-    let fits = working::fits(s, output, first, second) & (runs <= passing as u64);
+    let fits = working::fits(s, profiles) & (runs <= passing as u64);
     need(Refusal::ProfileRoom, fits)?;
-    Ok(s)
+    Ok(accepted)
 }
 
 // The working decides the volumes before it writes; where it refuses, no point is written either.
 fn work_accepted(
-    s: Segment,
+    accepted: Accepted,
     points: Points,
-    output: &mut [u32],
+    profiles: &mut LentProfiles,
     passing: &mut [u32],
-    first: &mut [u32],
-    second: &mut [u32],
 ) -> Result<PointWorking, Unworked>
-    requires { Accepts s points (lent output.old first.old second.old) passing.old }
-    ensures { point_called result (lent output.new first.new second.new) passing.new
-        ≡ with_points s points (by_decision s (decision_for s) (lent output.old first.old second.old)) passing.old }
+    requires { Accepts accepted points (held profiles.old) passing.old }
+    ensures same { Same profiles.old profiles.new }
+    ensures worked { point_called result (held profiles.new) passing.new
+        ≡ with_points accepted points (by_decision accepted (decision_for accepted) (held profiles.old)) passing.old }
 {
-    let working = working::work_accepted(s, output, first, second)?;
-    let blocked = point_filling::fill(s, points, passing);
+    let working = working::work_accepted(accepted, profiles)?;
+    let blocked = point_filling::fill(accepted, points, passing);
     Ok(PointWorking { working, blocked })
 }
 
@@ -64,21 +63,12 @@ fn work_accepted(
 pub fn work_points(
     bytes: &[u8],
     points: Points,
-    output: &mut [u32],
+    profiles: &mut LentProfiles,
     passing: &mut [u32],
-    first: &mut [u32],
-    second: &mut [u32],
 ) -> Result<PointWorking, Unworked>
-    ensures { PointWorks bytes.now points (lent output.old first.old second.old) passing.old
-        result (lent output.new first.new second.new) passing.new }
+    ensures same { Same profiles.old profiles.new }
+    ensures works { PointWorks bytes.now points (held profiles.old) passing.old result (held profiles.new) passing.new }
 {
-    let s = accept(
-        bytes,
-        points,
-        output.len(),
-        passing.len(),
-        first.len(),
-        second.len(),
-    )?;
-    work_accepted(s, points, output, passing, first, second)
+    let accepted = accept(bytes, points, profiles, passing.len())?;
+    work_accepted(accepted, points, profiles, passing)
 }

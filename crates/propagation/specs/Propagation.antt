@@ -1,5 +1,5 @@
 -- The profiles of a segment whose pair flows are given: each entry's discharge dispersed, shared among the exits, and landed.
-use Rattle.std.specs.Prelude.{ℕ, suc, ◌+◌, ◌*◌, List, [], ◌++◌, drop, get_or}
+use Rattle.std.specs.Prelude.{ℕ, suc, ◌+◌, ◌*◌, ◌≡◌, List, [], ◌++◌, drop, get_or}
 use Rattle.signal.specs.Landing.{landing}
 use Rattle.segment.specs.declared.Entry.{Entry}
 use Rattle.segment.specs.declared.Segment.{Segment}
@@ -8,6 +8,7 @@ use Rattle.entries.specs.Entries.{entry_profile}
 use Rattle.dispersion.specs.Dispersion.{arrival_time_of, reported}
 use Rattle.pair_parts.specs.PairParts.{pair_arrivals}
 use Rattle.arrivals.specs.Arrivals.{four_runs}
+use Rattle.propagation.specs.declared.LentProfiles.{LentProfiles}
 
 -- the three lent profiles
 pub record Profiles : Type 0 where
@@ -21,6 +22,16 @@ profiles o f s = record { output = o; first = f; second = s }
 -- as a contract reads them, behind the references that a call is lent
 abbrev pub lent : (output first second : List ℕ) → Profiles
 lent output first second = profiles output first second
+
+-- what lent profiles hold
+abbrev pub held : LentProfiles → Profiles
+held p = lent p.output.now p.first.now p.second.now
+
+-- a call leaves its profiles those that it was lent, whatever it writes to them
+pub record Same (p p' : LentProfiles) : Type 0 where
+  pub output : p'.output.ghost_name ≡ p.output.ghost_name
+  pub first : p'.first.ghost_name ≡ p.first.ghost_name
+  pub second : p'.second.ghost_name ≡ p.second.ghost_name
 
 -- sixty-four cycles are worked before the reported one, sixty-five in all
 abbrev pub cycles_before : ℕ

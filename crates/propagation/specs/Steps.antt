@@ -6,7 +6,7 @@ use Rattle.movements.specs.PerMovement.{Counts}
 use Rattle.movements.specs.Movements.{flow_units}
 use Rattle.segment.specs.declared.Entry.{Entry}
 use Rattle.segment.specs.declared.Segment.{Segment}
-use Rattle.ranges.specs.Ranges.{Ranges, EntryRanges}
+use Rattle.ranges.specs.Ranges.{EntryRanges}
 use Rattle.metering.specs.Metering.{discharge_volume, discharge_units, discharge_volumes}
 use Rattle.entries.specs.Entries.{entry_profile}
 use Rattle.dispersion.specs.Dispersion.{arrival_time_of, reported}
@@ -60,7 +60,6 @@ pub record RowsFit (s : Segment) (rows : List (List ℕ)) : Type 0 where
   pub access : (j : ℕ) → pair_flow rows 3 j ≤ flow_units s.access
 
 pub record FillFits (s : Segment) (o : Counts) (rows : List (List ℕ)) (p : Profiles) : Type 0 where
-  pub ranges : Ranges s
   pub volumes : o ≡ discharge_volumes s
   pub shares : RowsFit s rows
   pub room : Room s.cycle p

@@ -2,16 +2,26 @@
 #![tactic(auto)]
 
 ghost use Rattle.std.specs.Prelude.{◌≡◌};
-ghost use Rattle.propagation.specs.Propagation.{filled_of, lent};
+ghost use Rattle.propagation.specs.Propagation.{Same, filled_of, held, lent};
 ghost use Rattle.propagation.specs.Steps.{FillEntryFits, FillFits, SpreadFits, entry_step, spread_step};
 
 use movements::Counts;
+use ranges::Accepted;
 use segment::{Entry, Segment};
+
+// The profiles that a working is lent: the output, and the two work profiles.
+#[derive(Drop)]
+pub struct LentProfiles<'a> {
+    pub output: &'a mut [u32],
+    pub first: &'a mut [u32],
+    pub second: &'a mut [u32],
+}
 
 // Cycles worked from an empty segment; the last is reported.
 pub const CYCLES: u32 = 65;
 
-// Disperses a discharge over the cycles and adds what of it goes to each exit.
+// Disperses a discharge over the cycles and adds what of it goes to each exit. The profiles come one by one: a part of a work profile
+// is read while the output is written, which the borrow's rules do not cover behind one reference.
 fn spread(
     running: u32,
     units: u32,
@@ -31,18 +41,10 @@ fn spread(
 }
 
 // One entry that discharges o: its profile stands in an array of the longest cycle.
-fn fill_entry(
-    s: Segment,
-    e: Entry,
-    o: u32,
-    row: [u32; 4],
-    output: &mut [u32],
-    first: &mut [u32],
-    second: &mut [u32],
-)
-    requires { FillEntryFits s.running s.cycle e o row (lent output.old first.old second.old) }
-    ensures { lent output.new first.new second.new
-        ≡ entry_step s.running s.cycle e row (lent output.old first.old second.old) }
+fn fill_entry(s: Segment, e: Entry, o: u32, row: [u32; 4], profiles: &mut LentProfiles)
+    requires { FillEntryFits s.running s.cycle e o row (held profiles.old) }
+    ensures same { Same profiles.old profiles.new }
+    ensures filled { held profiles.new ≡ entry_step s.running s.cycle e row (held profiles.old) }
 {
     let c = s.cycle as usize;
     let mut discharge = [0u32; limits::CYCLE_ROOM];
@@ -52,27 +54,22 @@ fn fill_entry(
         movements::flow_units(o),
         row,
         &discharge[0..c],
-        output,
-        first,
-        second,
+        profiles.output,
+        profiles.first,
+        profiles.second,
     );
 }
 
 // The whole, from the discharge volumes and the pair flows: access first, then the signalised entries in order.
 // The right entry's cycles stay in the work profiles.
-pub fn fill(
-    s: Segment,
-    o: Counts,
-    rows: [[u32; 4]; 4],
-    output: &mut [u32],
-    first: &mut [u32],
-    second: &mut [u32],
-)
-    requires { FillFits s o rows (lent output.old first.old second.old) }
-    ensures { lent output.new first.new second.new ≡ filled_of s rows (lent output.old first.old second.old) }
+pub fn fill(accepted: Accepted, o: Counts, rows: [[u32; 4]; 4], profiles: &mut LentProfiles)
+    requires { FillFits accepted o rows (held profiles.old) }
+    ensures same { Same profiles.old profiles.new }
+    ensures filled { held profiles.new ≡ filled_of accepted rows (held profiles.old) }
 {
-    arrivals::begin(s.cycle as usize, rows[3], output);
-    fill_entry(s, s.left, o.left, rows[0], output, first, second);
-    fill_entry(s, s.through, o.through, rows[1], output, first, second);
-    fill_entry(s, s.right, o.right, rows[2], output, first, second);
+    let s = accepted.segment;
+    arrivals::begin(s.cycle as usize, rows[3], profiles.output);
+    fill_entry(s, s.left, o.left, rows[0], profiles);
+    fill_entry(s, s.through, o.through, rows[1], profiles);
+    fill_entry(s, s.right, o.right, rows[2], profiles);
 }

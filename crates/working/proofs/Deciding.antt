@@ -44,17 +44,17 @@ decided_is s eo ed = ed ∙ rw eo
 
 module _ {s : Segment} {d : Decision} {p : Profiles} (h : Decided s d p) {rows : List (List ℕ)} (er : rows ≡ d.pairs.rows) where
   pub fill_asks : {o : Counts} → o ≡ discharge_volumes s → FillFits s o rows p
-  fill_asks ev = record { ranges = h.ranges; volumes = ev; shares = rw er (rows_fit s d h.works); room = h.room }
+  fill_asks ev = record { volumes = ev; shares = rw er (rows_fit s d h.works); room = h.room }
 
   pub filled : (p' : Profiles) → p' ≡ filled_of s rows p → Filled s d.pairs.rows p'.output
   unfolding filled_of
-  filled p' ef = record { ranges = h.ranges; rest = drop (4 * s.cycle) p.output; is = ap (λ (q : Profiles). q.output) (rw er at ef) }
+  filled p' ef = record { rest = drop (4 * s.cycle) p.output; is = ap (λ (q : Profiles). q.output) (rw er at ef) }
 
 -- ---- what the record decides
 
 module _ (l : List ℕ) (p : Profiles) where
-  pub record_passed : (s : Segment) → accept_for l p ≡ Ok s → Ranges s × Room s.cycle p
-  record_passed s e = let a = call_passed l p s e in (a.0.ranges, a.1)
+  pub record_passed : (s : Segment) → accept_for l p ≡ Ok s → Room s.cycle p
+  record_passed s e = (call_passed l p s e).1
 
   -- the call, worked or refused for its volumes
   pub record_worked : (s : Segment) → accept_for l p ≡ Ok s → (r : Result Working Unworked) (p' : Profiles) →

@@ -1,5 +1,5 @@
 -- Laws of specs/Ways.antt.
-use Rattle.std.specs.Prelude.{ℕ, ◌≤◌, ◌≡◌, refl, List, leb, length, Ok, Err, Result}
+use Rattle.std.specs.Prelude.{ℕ, ◌≤◌, ◌≡◌, refl, List, leb, Ok, Err, Result}
 use Rattle.std.proofs.Common.{arith, ap, sym, ◌∙◌, leb-true}
 use Rattle.refusal.specs.declared.Refusal.{Refusal}
 use Rattle.refusal.specs.Refusal.{number, Or, ok_refused}
@@ -16,6 +16,7 @@ use Rattle.balance_decision.specs.Meaning.{decision_number}
 use Rattle.metering.specs.Metering.{discharge_volumes}
 use Rattle.propagation.specs.Propagation.{Profiles}
 use Rattle.propagation.specs.Steps.{Room}
+use Rattle.propagation.proofs.Filling.{filled_room}
 use Rattle.working_outcome.specs.declared.Working.{Working}
 use Rattle.working_outcome.specs.Answer.{run_of, worked_of}
 use Rattle.working_outcome.specs.Filled.{filled_run}
@@ -26,7 +27,7 @@ use Rattle.working.specs.Ways.{WorkedBy}
 
 module _ (l : List ℕ) (p : Profiles) where
   abbrev pub accept_for : Or Segment
-  accept_for = accept_of l (length p.output) (length p.first) (length p.second)
+  accept_for = accept_of l p
 
   pub call_passed : (s : Segment) → accept_for ≡ Ok s → Accepted l s × Room s.cycle p
   call_passed s e = let a = accept_passed l _ s e in (a.0, fits_room s p (a.1 16))
@@ -55,6 +56,18 @@ module _ (l : List ℕ) (p : Profiles) where
             answer = k.2;
             is = is ∙ ap (λ (x : Result Decision Unworked). by_decision s x p) k.1;
           }
+
+-- a call leaves its profiles the room that they had
+decided_room : (s : Segment) (p : Profiles) → Room s.cycle p → {n : ℕ} → Room n p → (x : Result Decision Unworked) → Room n (by_decision s x p).after
+decided_room s p fits r (Err u) = r
+decided_room s p fits r (Ok d) = filled_room s d.pairs.rows p fits r
+
+pub call_room : (l : List ℕ) (p : Profiles) {n : ℕ} → Room n p → Room n (call_of l p).after
+call_room l p {n} r = go (accept_for l p) refl
+  where
+    go : (x : Or Segment) → accept_for l p ≡ x → Room n (call_of l p).after
+    go (Err e) ex = rw (call_refused l p e ex) r
+    go (Ok s) ex = rw (call_accepted l p s ex) (decided_room s p (call_passed l p s ex).1 r (decision_for s))
 
 -- the through run that such a call leaves, whatever it was lent
 pub call_through : (l : List ℕ) (p : Profiles) (w : Working) → (call_of l p).answer ≡ Ok w →

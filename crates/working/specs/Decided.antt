@@ -7,7 +7,6 @@ use Rattle.lists.specs.Lists.{sum}
 use Rattle.movements.specs.PerMovement.{Counts}
 use Rattle.movements.specs.Movements.{flow_units}
 use Rattle.segment.specs.declared.Segment.{Segment}
-use Rattle.ranges.specs.Ranges.{Ranges}
 use Rattle.balance_flows.specs.Flows.{Flows, FlowTable}
 use Rattle.metering.specs.Metering.{discharge_volumes, discharge_units}
 use Rattle.balance_pairs.specs.Pairs.{pair_row, pair_rows, row_adds_lem}
@@ -18,7 +17,7 @@ use Rattle.propagation.specs.Steps.{Room, RowsFit}
 use Rattle.working.specs.Working.{fits, decision_for}
 
 -- profiles that pass the test of their lengths have room
-pub fits_room : (s : Segment) (p : Profiles) → fits (length p.output) (length p.first) (length p.second) s ≡ true → Room s.cycle p
+pub fits_room : (s : Segment) (p : Profiles) → fits p s ≡ true → Room s.cycle p
 fits_room s p e =
     let c = s.cycle in
     let t = both (leb (4 * c) (length p.output) && leb c (length p.first)) (leb c (length p.second)) e in
@@ -27,7 +26,6 @@ fits_room s p e =
 
 -- a record that is decided to work, and profiles with room for it
 pub record Decided (s : Segment) (d : Decision) (p : Profiles) : Type 0 where
-  pub ranges : Ranges s
   pub room : Room s.cycle p
   pub works : decision_for s ≡ Ok d
 

@@ -15,13 +15,13 @@ use Rattle.accuracy.specs.Accuracy.{Accurate}
 use Rattle.working_outcome.specs.declared.Working.{Working}
 use Rattle.working_outcome.specs.Answer.{worked_of}
 
--- the lengths of lent profiles that have room for a record's cycle
-abbrev pub fits : (output first second : ℕ) → Segment → Bool
-fits output first second s = leb (4 * s.cycle) output && leb s.cycle first && leb s.cycle second
+-- lent profiles have room for a record's cycle
+abbrev pub fits : Profiles → Segment → Bool
+fits p s = leb (4 * s.cycle) (length p.output) && leb s.cycle (length p.first) && leb s.cycle (length p.second)
 
 -- the places record and lent profiles
-abbrev pub accept_of : List ℕ → (output first second : ℕ) → Or Segment
-accept_of l output first second = accept_with l (λ s. test ProfileRoom (fits output first second s) ∷ [])
+abbrev pub accept_of : List ℕ → Profiles → Or Segment
+accept_of l p = accept_with l (λ s. test ProfileRoom (fits p s) ∷ [])
 
 -- the place volumes: the sixteen pair flows, or 13, 14, 15
 unfoldable pub decision_for : Segment → Result Decision Unworked
@@ -49,7 +49,7 @@ by_record (Err refusal) p = called (Err (Refused refusal)) p
 by_record (Ok s) p = by_decision s (decision_for s) p
 
 unfoldable pub call_of : List ℕ → Profiles → Called
-call_of l p = by_record (accept_of l (length p.output) (length p.first) (length p.second)) p
+call_of l p = by_record (accept_of l p) p
 
 -- the call as called: its answer and all three profiles, and demand 3 of every record and all profiles that it accepts
 pub record Works (l : List ℕ) (p : Profiles) (r : Result Working Unworked) (p' : Profiles) : Type 0 where

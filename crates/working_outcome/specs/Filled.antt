@@ -2,14 +2,12 @@
 use Rattle.std.specs.Prelude.{◌≡◌, List, ℕ, ◌*◌, ◌<◌, drop}
 use Rattle.runs.specs.Runs.{run_at}
 use Rattle.segment.specs.declared.Segment.{Segment}
-use Rattle.ranges.specs.Ranges.{Ranges}
 use Rattle.arrivals.specs.Arrivals.{four_runs}
 use Rattle.arrivals.proofs.Laws.{run_of_lem}
 use Rattle.propagation.specs.Propagation.{Profiles, flow_at, filled_of}
 use Rattle.working_outcome.specs.Answer.{run_of}
 
 pub record Filled (s : Segment) (rows : List (List ℕ)) (output : List ℕ) : Type 0 where
-  pub ranges : Ranges s
   pub rest : List ℕ
   pub is : output ≡ four_runs s.cycle (flow_at s rows) rest
 

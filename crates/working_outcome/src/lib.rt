@@ -6,9 +6,10 @@ ghost use Rattle.working_outcome.specs.Answer.{worked_of};
 ghost use Rattle.working_outcome.specs.Filled.{Filled};
 
 use balance_decision::Decision;
-use exit_figures::ExitFigures;
+use exit_figures::{ExitFigures, Run};
 use pair_flows::PairFlows;
-use segment::Segment;
+use propagation::LentProfiles;
+use ranges::Accepted;
 
 // The last sum of differences, platoon arrival time in steps, rounds of balancing, the sixteen pair flows, the exits' figures
 // (access its total alone), and the blocked steps of the through exit.
@@ -25,24 +26,38 @@ pub struct Working {
     pub blocked: u32,
 }
 
-// The figures of an output that was filled with what was decided.
-pub fn worked(s: Segment, d: Decision, output: &[u32]) -> Working
-    requires { Filled s d.pairs.rows output.now }
-    ensures { result ≡ worked_of s d }
+// The figures of profiles that were filled with what was decided, read from the output.
+pub fn worked(accepted: Accepted, d: Decision, profiles: &LentProfiles) -> Working
+    requires { Filled accepted d.pairs.rows profiles.now.output.now }
+    ensures { result ≡ worked_of accepted d }
 {
+    let s = accepted.segment;
+    let output = &*profiles.output;
     let one = s.cycle as usize;
     let two = one + one;
     let three = two + one;
     let four = three + one;
+    let left = Run {
+        steps: &output[0..one],
+    };
+    let through = Run {
+        steps: &output[one..two],
+    };
+    let right = Run {
+        steps: &output[two..three],
+    };
+    let access = Run {
+        steps: &output[three..four],
+    };
     Working {
         sum: d.sum,
         arrival: dispersion::arrival_time(s.running),
         rounds: d.rounds,
         pairs: d.pairs,
-        left: exit_figures::figures(s.downstream.left, &output[0..one]),
-        through: exit_figures::figures(s.downstream.through, &output[one..two]),
-        right: exit_figures::figures(s.downstream.right, &output[two..three]),
-        access: exit_figures::total(&output[three..four]),
-        blocked: exit_figures::blocked_steps(s.headway, &output[one..two]),
+        left: left.figures(s.downstream.left),
+        through: through.figures(s.downstream.through),
+        right: right.figures(s.downstream.right),
+        access: access.total(),
+        blocked: through.blocked_steps(s.headway),
     }
 }

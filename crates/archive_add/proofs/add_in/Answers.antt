@@ -28,22 +28,22 @@ returns-in_err-need-3 c =
 
 -- the new length is no number that wraps
 pub overflow_add-length : goal.overflow_add-length
-overflow_add-length c = omega (arith, held_small _ _ (held c.in_ok-archive.archive c.in_ok-archive.ensures))
+overflow_add-length c = omega (arith, held_small _ _ (held c.in_ok-archive.archive c.in_ok-archive.ensures) c.args.e.sized)
 
 pub overflow_add-length-2 : goal.overflow_add-length-2
-overflow_add-length-2 c = omega (arith, held_small _ _ (held c.in_ok-archive.archive c.in_ok-archive.ensures))
+overflow_add-length-2 c = omega (arith, held_small _ _ (held c.in_ok-archive.archive c.in_ok-archive.ensures) c.args.e.sized)
 
 pub overflow_add-length-3 : goal.overflow_add-length-3
-overflow_add-length-3 c = omega (arith, held_small _ _ (held c.in_ok-archive.archive c.in_ok-archive.ensures))
+overflow_add-length-3 c = omega (arith, held_small _ _ (held c.in_ok-archive.archive c.in_ok-archive.ensures) c.args.e.sized)
 
 pub overflow_mul-length : goal.overflow_mul-length
-overflow_mul-length c = omega (arith, held_small _ _ (held c.in_ok-archive.archive c.in_ok-archive.ensures))
+overflow_mul-length c = omega (arith, held_small _ _ (held c.in_ok-archive.archive c.in_ok-archive.ensures) c.args.e.sized)
 
 pub overflow_add-length-4 : goal.overflow_add-length-4
-overflow_add-length-4 c = omega (arith, held_small _ _ (held c.in_ok-archive.archive c.in_ok-archive.ensures))
+overflow_add-length-4 c = omega (arith, held_small _ _ (held c.in_ok-archive.archive c.in_ok-archive.ensures) c.args.e.sized)
 
 pub overflow_add-length-5 : goal.overflow_add-length-5
-overflow_add-length-5 c = omega (arith, held_small _ _ (held c.in_ok-archive.archive c.in_ok-archive.ensures))
+overflow_add-length-5 c = omega (arith, held_small _ _ (held c.in_ok-archive.archive c.in_ok-archive.ensures) c.args.e.sized)
 
 pub returns-in_err-need-4 : goal.returns-in_err-need-4
 unfolding need
@@ -72,7 +72,7 @@ grow-n-requires c =
     record {
       few = few;
       short = omega (arith, short);
-      placed = omega (arith, held_next _ _ h _ few short, sized);
+      placed = omega (arith, held_next _ _ h _ c.args.e.sized few short, sized);
       held = omega (arith, held_fits _ _ h);
       enough = omega (arith, room, sized);
     }

@@ -3,4 +3,4 @@ use Rattle.archive_open.proofs.Loops.{Testing}
 use Rattle.archive_open.proofs.test_records.Given as goal
 
 abbrev pub invariant-loop-i : goal.invariant-loop-i
-invariant-loop-i l = Testing l.e.size l.s l.count l.t l.i l.at l.last l.titled l.rising
+invariant-loop-i l = Testing l.e.edition.size l.s l.count l.t l.i l.at l.last l.titled l.rising

@@ -1,32 +1,10 @@
 use Rattle.std.proofs.Common.{arith}
-use Rattle.arrivals.proofs.Landing.{lands_pos, lands_le, at_within}
-use Rattle.arrivals.proofs.Pairs.{pair_turn, pair_done, none_added}
+use Rattle.pair_parts.proofs.Laws.{pair_parts}
+use Rattle.arrivals.proofs.Pairs.{none_added}
 use Rattle.arrivals.proofs.add_pair.Goals as goal
 
 pub returns-then-v-eq0 : goal.returns-then-v-eq0
 returns-then-v-eq0 c = none_added _ _ _ _ _ c.if-v-eq0.true
 
-pub index-at-requires : goal.index-at-requires
-index-at-requires c = lands_pos c.loop-arrival.invariant.landing c.requires.lands
-
-pub offset_bounds-run-at : goal.offset_bounds-run-at
-offset_bounds-run-at c = omega (arith, at_within c.loop-arrival.invariant.landing c.requires.lands c.loop-arrival-test.true c.index-at.ensures)
-
-pub bounds-run-at : goal.bounds-run-at
-bounds-run-at c = at_within c.loop-arrival.invariant.landing c.requires.lands c.loop-arrival-test.true c.index-at.ensures
-
-pub bounds-run-at-in-loop-arrival : goal.bounds-run-at-in-loop-arrival
-bounds-run-at-in-loop-arrival c = at_within c.loop-arrival.invariant.landing c.requires.lands c.loop-arrival-test.true c.index-at.ensures
-
-pub next-lands-requires : goal.next-lands-requires
-next-lands-requires c =
-    let l = c.loop-arrival.invariant.landing in
-    let a = c.requires.lands in
-    omega (arith, lands_pos l a, lands_le l a, a.cycle)
-
-pub loop-arrival-preserved : goal.loop-arrival-preserved
-loop-arrival-preserved c =
-    pair_turn c.loop-arrival.invariant c.requires c.loop-arrival-test.true c.index-at.ensures c.part_of-piece.ensures c.next-lands.ensures
-
 pub returns : goal.returns
-returns c = pair_done c.loop-arrival.invariant c.loop-arrival-test.false
+returns c = rw (pair_parts c.args.v c.args.w c.args.arrived.now (omega (arith, c.requires.share))) c.add_parts.ensures

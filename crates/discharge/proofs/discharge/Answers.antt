@@ -4,7 +4,7 @@ use Rattle.discharge.proofs.Laws.{asks, writes}
 use Rattle.discharge.proofs.discharge.Goals as goal
 
 pub write-requires : goal.write-requires
-write-requires c = asks _ _ _ (sym c.accept.ensures ∙ c.in_ok-s.was)
+write-requires c = asks _ _ _ (sym c.accept.ensures ∙ c.in_ok-accepted.was)
 
 pub returns : goal.returns
-returns c = writes _ _ _ (sym c.accept.ensures ∙ c.in_ok-s.was) _ _ c.write.ensures.value c.write.ensures.profile_after
+returns c = writes _ _ _ (sym c.accept.ensures ∙ c.in_ok-accepted.was) _ _ c.write.ensures.value c.write.ensures.profile_after

@@ -1,5 +1,6 @@
 -- With no points nothing is written or counted; else the discharges stand in front of their array, then each point is filled.
-use Rattle.std.proofs.Common.{sym}
+use Rattle.std.proofs.Common.{arith, sym, ◌∙◌}
+use Rattle.std.proofs.lemmas.List.{length-take-le}
 use Rattle.points.proofs.Laws.{none_given}
 use Rattle.point_flows.proofs.Laws.{no_runs, no_counts}
 use Rattle.point_filling.proofs.Discharging.{discharging}
@@ -10,4 +11,4 @@ returns-then-points-eq0 c =
     rw (none_given c.args.points c.if-points-eq0.true) (record { out_after = sym (no_runs _ _); value = sym (no_counts _) })
 
 pub fill_each-requires : goal.fill_each-requires
-fill_each-requires c = discharging _ _ c.fill_profiles.auto.profile c.requires _ c.fill_profiles.ensures
+fill_each-requires c = rw (← c.accepted.view_is) (discharging _ _ (c.fill_profiles.auto.profile ∙ length-take-le _ _ (omega (arith, c.accepted.invariant.cycle))) (rw (← c.accepted.view_is) at c.requires) _ (rw (← c.accepted.view_is) at c.fill_profiles.ensures))

@@ -11,14 +11,16 @@ loop-i-init c = filling_start _ _ _ (given_few c.requires.fill (search rules))
 pub fill_point-requires : goal.fill_point-requires
 unfolding given
 fill_point-requires c =
-    filling_fits c.loop-i.invariant c.loop-i-test.true _ (given_room c.requires.fill (search rules)) c.requires.discharged
-    (rw sub-zero c.requires.fill.fit)
+    rw c.accepted.view_is
+    (filling_fits c.loop-i.invariant c.loop-i-test.true _ (given_room c.requires.fill (search rules)) (rw c.accepted.view_is at c.accepted.invariant)
+    c.requires.discharged (rw sub-zero c.requires.fill.fit))
 
 pub loop-i-preserved : goal.loop-i-preserved
 loop-i-preserved c =
     let f = c.fill_point in
-    filling_turn c.loop-i.invariant c.loop-i-test.true _ (given_room c.requires.fill (search rules)) f.new.run f.auto.run
-    f.ensures.run_after f.ensures.value
+    rw c.accepted.view_is
+    (filling_turn c.loop-i.invariant c.loop-i-test.true _ (given_room c.requires.fill (search rules)) f.new.run (rw c.accepted.view_is at f.auto.run)
+    f.ensures.run_after f.ensures.value)
 
 pub returns : goal.returns
 unfolding given

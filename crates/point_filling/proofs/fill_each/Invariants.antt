@@ -3,4 +3,4 @@ use Rattle.point_filling.proofs.Filling.{Filling}
 use Rattle.point_filling.proofs.fill_each.Given as goal
 
 abbrev pub invariant-loop-i : goal.invariant-loop-i
-invariant-loop-i l = Filling l.s l.p-items l.initial.out l.out l.blocked l.i
+invariant-loop-i l = Filling l.accepted l.p-items l.initial.out l.out l.blocked l.i

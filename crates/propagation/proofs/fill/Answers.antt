@@ -8,44 +8,35 @@ use Rattle.propagation.proofs.fill.Goals as goal
 pub fill_entry-requires : goal.fill_entry-requires
 unfolding discharge_volumes
 fill_entry-requires c =
-    let h = c.requires in
-    let begun = fill_begin h c.begin.ensures c.begin.auto.out in
-    fill_asks begun h.ranges (omega arith) _ h.ranges.left (ap (λ (v : Counts). v.left) h.volumes) h.shares.left
+    let h = rw (← c.accepted.view_is) at c.requires in
+    let r = c.accepted.invariant in
+    let begun = fill_begin r h c.begin.ensures c.begin.auto.out in
+    fill_asks begun r (omega arith) _ r.left (ap (λ (v : Counts). v.left) h.volumes) h.shares.left
 
 pub fill_entry-requires-2 : goal.fill_entry-requires-2
 unfolding discharge_volumes
 fill_entry-requires-2 c =
-    let h = c.requires in
-    let begun = fill_begin h c.begin.ensures c.begin.auto.out in
-    let k = c.fill_entry.auto in
-    let left =
-    then_entry h.ranges begun _ h.ranges.left (h.shares.four 0 (omega arith)) h.shares.left c.fill_entry.ensures k.output k.first k.second in
-    fill_asks left h.ranges (omega arith) _ h.ranges.through (ap (λ (v : Counts). v.through) h.volumes) h.shares.through
+    let h = rw (← c.accepted.view_is) at c.requires in
+    let r = c.accepted.invariant in
+    let begun = fill_begin r h c.begin.ensures c.begin.auto.out in
+    let left = then_entry begun r _ r.left (h.shares.four 0 (omega arith)) h.shares.left c.fill_entry.ensures.filled in
+    fill_asks left r (omega arith) _ r.through (ap (λ (v : Counts). v.through) h.volumes) h.shares.through
 
 pub fill_entry-requires-3 : goal.fill_entry-requires-3
 unfolding discharge_volumes
 fill_entry-requires-3 c =
-    let h = c.requires in
-    let begun = fill_begin h c.begin.ensures c.begin.auto.out in
-    let k = c.fill_entry.auto in
-    let left =
-    then_entry h.ranges begun _ h.ranges.left (h.shares.four 0 (omega arith)) h.shares.left c.fill_entry.ensures k.output k.first k.second in
-    let m = c.fill_entry-2.auto in
-    let through =
-    then_entry h.ranges left _ h.ranges.through (h.shares.four 1 (omega arith)) h.shares.through c.fill_entry-2.ensures
-    m.output m.first m.second in
-    fill_asks through h.ranges (omega arith) _ h.ranges.right (ap (λ (v : Counts). v.right) h.volumes) h.shares.right
+    let h = rw (← c.accepted.view_is) at c.requires in
+    let r = c.accepted.invariant in
+    let begun = fill_begin r h c.begin.ensures c.begin.auto.out in
+    let left = then_entry begun r _ r.left (h.shares.four 0 (omega arith)) h.shares.left c.fill_entry.ensures.filled in
+    let through = then_entry left r _ r.through (h.shares.four 1 (omega arith)) h.shares.through c.fill_entry-2.ensures.filled in
+    fill_asks through r (omega arith) _ r.right (ap (λ (v : Counts). v.right) h.volumes) h.shares.right
 
-pub returns : goal.returns
-returns c =
-    let h = c.requires in
-    let begun = fill_begin h c.begin.ensures c.begin.auto.out in
-    let k = c.fill_entry.auto in
-    let left =
-    then_entry h.ranges begun _ h.ranges.left (h.shares.four 0 (omega arith)) h.shares.left c.fill_entry.ensures k.output k.first k.second in
-    let m = c.fill_entry-2.auto in
-    let through =
-    then_entry h.ranges left _ h.ranges.through (h.shares.four 1 (omega arith)) h.shares.through c.fill_entry-2.ensures
-    m.output m.first m.second in
-    let n = c.fill_entry-3.auto in
-    then_last h.ranges h.shares through c.fill_entry-3.ensures n.output n.first n.second
+pub returns-clause-filled : goal.returns-clause-filled
+returns-clause-filled c =
+    let h = rw (← c.accepted.view_is) at c.requires in
+    let r = c.accepted.invariant in
+    let begun = fill_begin r h c.begin.ensures c.begin.auto.out in
+    let left = then_entry begun r _ r.left (h.shares.four 0 (omega arith)) h.shares.left c.fill_entry.ensures.filled in
+    let through = then_entry left r _ r.through (h.shares.four 1 (omega arith)) h.shares.through c.fill_entry-2.ensures.filled in
+    rw (← c.accepted.view_is) (then_last r h.shares through c.fill_entry-3.ensures.filled)

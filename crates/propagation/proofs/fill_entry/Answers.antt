@@ -12,6 +12,6 @@ pub spread-requires : goal.spread-requires
 spread-requires c =
     entry_asks c.requires (c.flow_units.ensures ∙ ap flow_units c.requires.volume) (front _ _ _ c.fill_profile.ensures _)
 
-pub returns : goal.returns
-returns c =
+pub returns-clause-filled : goal.returns-clause-filled
+returns-clause-filled c =
     entry_done _ _ _ _ _ (c.flow_units.ensures ∙ ap flow_units c.requires.volume) (front _ _ _ c.fill_profile.ensures _) c.spread.ensures

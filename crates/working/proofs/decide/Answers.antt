@@ -3,7 +3,7 @@ use Rattle.working.proofs.Deciding.{limits, decided_is}
 use Rattle.working.proofs.decide.Goals as goal
 
 pub decide-requires : goal.decide-requires
-decide-requires c = limits _ _ c.requires c.discharge_volumes.ensures
+decide-requires c = limits _ _ c.accepted.invariant (rw (← c.accepted.view_is) at c.discharge_volumes.ensures)
 
 pub returns : goal.returns
-returns c = decided_is _ c.discharge_volumes.ensures c.decide.ensures
+returns c = rw (← c.accepted.view_is) (decided_is _ (rw (← c.accepted.view_is) at c.discharge_volumes.ensures) c.decide.ensures)

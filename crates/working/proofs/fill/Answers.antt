@@ -1,10 +1,9 @@
 -- The decided pair flows fit their entries, so the profiles are filled with them; the figures are read from the output.
-use Rattle.propagation.specs.Propagation.{profiles}
 use Rattle.working.proofs.Deciding.{fill_asks, filled}
 use Rattle.working.proofs.fill.Goals as goal
 
 pub fill-requires : goal.fill-requires
-fill-requires c = fill_asks c.requires c.into.ensures c.discharge_volumes.ensures
+fill-requires c = fill_asks c.requires c.into.ensures c.discharge_volumes-volumes.ensures
 
 pub worked-requires : goal.worked-requires
-worked-requires c = filled c.requires c.into.ensures (profiles _ _ _) c.fill.ensures
+worked-requires c = filled c.requires c.into.ensures _ c.fill.ensures.filled

@@ -2,8 +2,8 @@
 use Rattle.std.proofs.Common.{arith, ap, ◌∙◌}
 use Rattle.signal.specs.Turn.{turn}
 use Rattle.signal.specs.Greens.{green_step}
-use Rattle.signal.proofs.green_step.Goals as goal
+use Rattle.signal.proofs.Timing.green_step.Goals as goal
 
 pub returns : goal.returns
 unfolding green_step
-returns c = c.later.ensures ∙ ap (turn c.args.c) (omega arith)
+returns c = c.later.ensures ∙ ap (turn c.args.self.cycle) (omega arith)

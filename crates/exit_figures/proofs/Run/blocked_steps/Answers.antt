@@ -3,11 +3,11 @@ use Rattle.std.proofs.Common.{cond, ◌≡◌, refl, sym, ◌∙◌, rules}
 use Rattle.std.proofs.lemmas.List.Recursion.{is_sum_by}
 use Rattle.std.specs.Prelude.{count_by}
 use Rattle.exit_figures.specs.ExitFigures.{blocked, blocked_steps}
-use Rattle.exit_figures.proofs.blocked_steps.Goals as goal
+use Rattle.exit_figures.proofs.Run.blocked_steps.Goals as goal
 
 pub returns : goal.returns
 unfolding blocked_steps
 returns c =
     let h = c.args.headway in
-    let counted : c.count.result ≡ count_by (λ flow. blocked flow h) c.args.run.now = search rules in
-    counted ∙ sym (is_sum_by (blocked_steps h) (λ flow. cond (blocked flow h) 1 0) refl (λ flow run. refl) c.args.run.now)
+    let counted : c.count.result ≡ count_by (λ flow. blocked flow h) c.args.self.steps.now = search rules in
+    counted ∙ sym (is_sum_by (blocked_steps h) (λ flow. cond (blocked flow h) 1 0) refl (λ flow run. refl) c.args.self.steps.now)
