@@ -1,5 +1,5 @@
 -- What opening an archive answers, and what that says of its reading.
-use Rattle.std.specs.Prelude.{ℕ, ◌+◌, ◌*◌, ◌≡◌, true, List, length, Ok, Err}
+use Rattle.std.specs.Prelude.{ℕ, ◌+◌, ◌*◌, ◌≡◌, refl, true, List, length, Ok, Err}
 use Rattle.std.proofs.Common.{sym, ◌∙◌}
 use Rattle.refusal.specs.Refusal.{Or}
 use Rattle.archive_format.specs.declared.Edition.{Edition}
@@ -37,6 +37,10 @@ holds a =
 
 pub held : {e : Edition} {l : List ℕ} (a : Archive) → Opens e l (Ok a) → Held e l a.count a.trailer a.last
 held a o = rw o.0 at (rw o.1 at (holds a))
+
+-- of whatever reads, opened or not
+pub held_by : (e : Edition) (l : List ℕ) (fs : List Filed) → decode e l ≡ Ok fs → Held e l (length fs) (length (body fs)) (last_number 0 fs)
+held_by e l fs r = held_of fs r refl refl refl
 
 module _ (e : Edition) (l : List ℕ) {count t last : ℕ} (h : Held e l count t last) where
   pub held_run : runs e.size count l t 0 t ≡ true

@@ -15,7 +15,7 @@ pub record Walk (size : ℕ) (l : List ℕ) (left place : ℕ) : Type 0 where
   pub within : trailer ≤ length l
   pub run : runs size left l trailer place mark ≡ true
 
--- an archive that was read is walked from its first record
+-- what reads is walked from its first record
 pub held_walk : (e : Edition) (l : List ℕ) {count t last : ℕ} → Held e l count t last → Walk e.size l count 0
 held_walk e l {count} {t} h = record { trailer = t; mark = t; within = omega (arith, held_fits e l h); run = held_run e l h }
 

@@ -1,7 +1,7 @@
 -- The loops that add arrivals to a run where their steps land: what they keep, whatever is added of each arrival.
 use Rattle.std.proofs.Common.{ℕ, ◌+◌, ◌-◌, ◌≤◌, ◌<◌, arith, ◌≡◌, ap, ◌∙◌, List, ◌∷◌, length, set, get_or}
 use Rattle.signal.specs.Turn.{turn}
-use Rattle.signal.proofs.Turn.{turn_pos, turn_le, turn_next}
+use Rattle.signal.proofs.Turn.{turn_le, turn_next}
 use Rattle.signal.specs.Adding.{Adding}
 use Rattle.signal.proofs.Adding.{place_within, adding_turn}
 use Rattle.arrivals.specs.Arrivals.{LandsFit}
@@ -14,9 +14,6 @@ pub record Landing (t : ℕ) (arrived all left run₀ run : List ℕ) (lands i :
 
 module _ {t : ℕ} {arrived all left run₀ run : List ℕ} {lands i : ℕ} (r : Landing t arrived all left run₀ run lands i) (a : LandsFit t arrived run₀) where
   -- the step that it lands in is one of the cycle
-  pub lands_pos : 0 < lands
-  lands_pos = rw r.place (turn_pos (length run₀) (i + 1 + t))
-
   pub lands_le : lands ≤ length run₀
   lands_le = rw r.place (turn_le (length run₀) (i + 1 + t) a.some)
 

@@ -28,16 +28,17 @@ fn pair_row(cells: Flows, all: u32) -> [u32; 4]
     [left, after_right - access, right, access]
 }
 
-// Filled row by row, as paper 01 has the sixteen numbers.
+// The sixteen numbers as paper 01 has them, a row for each entry. Four calls: `zip_with` takes a function of every volume, and the flow
+// units are asked to be of one within its limit.
 #[tactic(auto, unfolding(crate::specs::Pairs::pair_rows))]
 pub fn pair_rows(cells: FlowTable, o: Counts) -> [[u32; 4]; 4]
     requires { WithinLimit o }
     ensures { result ≡ pair_rows cells o }
 {
-    let mut rows = [[0u32; 4]; 4];
-    rows[0] = pair_row(cells.left, movements::flow_units(o.left));
-    rows[1] = pair_row(cells.through, movements::flow_units(o.through));
-    rows[2] = pair_row(cells.right, movements::flow_units(o.right));
-    rows[3] = pair_row(cells.access, movements::flow_units(o.access));
-    rows
+    [
+        pair_row(cells.left, movements::flow_units(o.left)),
+        pair_row(cells.through, movements::flow_units(o.through)),
+        pair_row(cells.right, movements::flow_units(o.right)),
+        pair_row(cells.access, movements::flow_units(o.access)),
+    ]
 }

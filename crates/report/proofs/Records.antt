@@ -1,5 +1,5 @@
 -- The text of one record, and of the records of an archive one after another.
-use Rattle.std.specs.Prelude.{ℕ, suc, ◌+◌, ◌-◌, ◌≤◌, ◌<◌, ◌≡◌, List, length, take, drop, Result, Ok, Err}
+use Rattle.std.specs.Prelude.{ℕ, suc, ◌+◌, ◌-◌, ◌*◌, ◌≤◌, ◌<◌, ◌≡◌, List, length, take, drop, Result, Ok, Err}
 use Rattle.std.proofs.Common.{arith, ap, sym, ◌∙◌}
 use Rattle.std.proofs.Math.Nat.{sub-zero}
 use Rattle.limits.specs.Limits.{most_cycle}
@@ -13,10 +13,12 @@ use Rattle.buffer.proofs.Pieces.{appending_start, appending_turn, appending_done
 use Rattle.segment.specs.declared.Segment.{Segment}
 use Rattle.segment.specs.Layout.{size, cycle_at}
 use Rattle.segment.specs.Segment.{segment_of}
-use Rattle.propagation.specs.Propagation.{Profiles}
+use Rattle.propagation.specs.Propagation.{Profiles, profiles, filled_of}
 use Rattle.propagation.specs.Steps.{Room}
 use Rattle.balance_decision.specs.declared.Unworked.{Unworked}
 use Rattle.working_outcome.specs.declared.Working.{Working}
+use Rattle.working_outcome.specs.Filled.{Filled}
+use Rattle.working_outcome.proofs.Figures.{output_long}
 use Rattle.working.specs.Working.{Called, called, Works, call_of}
 use Rattle.working.proofs.Ways.{call_worked}
 use Rattle.archive_format.specs.declared.Edition.{Edition}
@@ -31,6 +33,11 @@ use Rattle.report.specs.Report.{longest, text_in, segment_text, records_text, ar
 use Rattle.report.specs.Working.{same_text, longest_room}
 
 -- ---- one record
+
+-- profiles of those lengths fit every record's cycle
+pub longest_fit : {output first second : List ℕ} → length output ≡ 4 * most_cycle → length first ≡ most_cycle → length second ≡ most_cycle →
+    Room most_cycle (profiles output first second)
+longest_fit o f s = record { output = omega (arith, o); first = omega (arith, f); second = omega (arith, s) }
 
 module _ (l : List ℕ) {p p' : Profiles} {r : Result Working Unworked} (room : Room most_cycle p) (works : Works l p r p') {cycle : ℕ} (es : cycle ≡ word2 l cycle_at) where
   -- what is printed of the call is printed of the record
@@ -48,14 +55,17 @@ module _ (l : List ℕ) {p p' : Profiles} {r : Result Working Unworked} (room : 
   worked_in f e en v = rw e (worked_alone f en v)
 
   -- and where it has worked, the output holds its through run
-  pub run_stands : length p'.output ≡ length p.output → RunStands cycle r p'.output
-  unfolding segment_of
-  run_stands kept =
+  pub run_stands : RunStands cycle r p'.output
+  unfolding segment_of filled_of
+  run_stands =
       record {
         worked = λ w e.
             let b = call_worked l p w (sym (ap (λ (c : Called). c.answer) works.is) ∙ e) in
             let same : cycle ≡ b.segment.cycle = es ∙ sym (ap (λ (s : Segment). s.cycle) b.accepted.is) in
-            omega (arith, b.accepted.ranges.cycle, room.output);
+            let left : p' ≡ filled_of b.segment b.decision.pairs.rows p = ap (λ (c : Called). c.after) (works.is ∙ b.is) in
+            let filled : Filled b.segment b.decision.pairs.rows p'.output =
+            record { rest = drop (4 * b.segment.cycle) p.output; is = ap (λ (q : Profiles). q.output) left } in
+            omega (arith, output_long filled);
       }
 
 -- ---- the records in order

@@ -9,6 +9,7 @@ use buffer::Writer;
 use report_lines::{access_line, blocked_line, exit_line, record_line, refused_line};
 use working_outcome::Working;
 
+// The exits are three calls: a loop over pairs of label and figures is longer, and the access exit has its total only.
 fn worked_text(text: &mut Writer, number: u32, cycle: u32, w: Working)
     ensures { Wrote text.old (worked_text number cycle w) text.new }
 {
@@ -20,6 +21,7 @@ fn worked_text(text: &mut Writer, number: u32, cycle: u32, w: Working)
     blocked_line(text, w.blocked, cycle);
 }
 
+// A match: two closures, one for each answer, cannot both hold the text.
 #[tactic(auto, unfolding(crate::specs::Record::record_text))]
 pub fn record_text(text: &mut Writer, number: u32, cycle: u32, answer: Result<Working, Unworked>)
     ensures { Wrote text.old (record_text number cycle answer) text.new }

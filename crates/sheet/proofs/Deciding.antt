@@ -1,5 +1,5 @@
 -- The ways of the call, from those of the working, over plain variables.
-use Rattle.std.specs.Prelude.{ℕ, ◌+◌, ◌^◌, ◌≤◌, ◌<◌, ◌≡◌, List, ◌++◌, length, drop, get_or, Result, Ok, Err}
+use Rattle.std.specs.Prelude.{ℕ, ◌+◌, ◌^◌, ◌≤◌, ◌<◌, ◌≡◌, refl, List, ◌++◌, length, drop, get_or, Result, Ok, Err}
 use Rattle.std.proofs.Common.{arith, ap, sym, subst, ◌∙◌}
 use Rattle.refusal.specs.declared.Refusal.{Refusal}
 use Rattle.refusal.specs.Refusal.{ok_refused}
@@ -18,9 +18,11 @@ use Rattle.propagation.specs.Propagation.{Profiles, filled_of}
 use Rattle.propagation.specs.Steps.{Room}
 use Rattle.working_outcome.specs.declared.Working.{Working}
 use Rattle.working_outcome.specs.Answer.{worked_of}
+use Rattle.working_outcome.proofs.Figures.{output_long}
 use Rattle.working.specs.Working.{accept_of, decision_for, Called, called, worked_call, by_decision}
 use Rattle.working.specs.Decided.{Decided}
 use Rattle.working.proofs.Decided.{decided_accurate}
+use Rattle.working.proofs.Deciding.{filled}
 use Rattle.working.proofs.Ways.{accept_for, call_passed, call_accepted, call_refused}
 use Rattle.page.specs.Page.{page_room}
 use Rattle.sheet_page.specs.SheetPage.{worked_page}
@@ -31,17 +33,22 @@ use Rattle.sheet.proofs.Laws.{beneath, page_laid_out, page_told}
 
 -- ---- filling what is decided to work
 
-pub sheet_filled : {s : Segment} {d : Decision} {p : Profiles} → Decided s d p → (number : ℕ) → number < 2 ^ 32 →
+-- the through run stands in the output
+pub run_stands : {s : Segment} {d : Decision} {p : Profiles} → Decided s d p → {w : Working} {p' : Profiles} → called (Ok w) p' ≡ worked_call s d p →
+    s.cycle + s.cycle ≤ length p'.output
+run_stands h {p' = p'} e = omega (arith, output_long (filled h refl p' (ap (λ (c : Called). c.after) e)))
+
+pub sheet_filled : {s : Segment} {d : Decision} {p : Profiles} → Ranges s → Decided s d p → (number : ℕ) → number < 2 ^ 32 →
     {w : Working} {p' : Profiles} → called (Ok w) p' ≡ worked_call s d p → (page : List ℕ) → page_room ≤ length page →
     {page' : List ℕ} {q : ℕ} → WroteAt page 0 (worked_page number s.cycle w p'.output) page' q →
     sheet_called (Ok w) p' page' ≡ printed number s.cycle (worked_of s d) (filled_of s d.pairs.rows p) page
-sheet_filled {s} {d} {p} h number four {w} {p'} e page room {page'} v =
+sheet_filled {s} {d} {p} ranges h number four {w} {p'} e page room {page'} v =
     let text = worked_page number s.cycle w p'.output in
     let answer : Ok w ≡ Ok (worked_of s d) = ap (λ (c : Called). c.answer) e in
     let is : w ≡ worked_of s d = cc in
     let left : p' ≡ filled_of s d.pairs.rows p = ap (λ (c : Called). c.after) e in
     let long : length text ≡ page_room =
-    rw (is, left) (worked_long (filled_of s d.pairs.rows p).output (sheet_sized s h.ranges d h.works p number four)) in
+    rw (is, left) (worked_long (filled_of s d.pairs.rows p).output (sheet_sized s ranges d h.works p number four)) in
     let z : 0 + length text ≡ page_room = omega arith in
     let written : page' ≡ text ++ drop page_room page = rw z at (wrote_fits v (omega arith)).0 in
     ap (λ (b : List ℕ). sheet_called (Ok w) p' b) written
@@ -50,12 +57,12 @@ sheet_filled {s} {d} {p} h number four {w} {p'} e page room {page'} v =
 
 -- ---- what the record decides
 
-pub record_passed : (l : List ℕ) (p : Profiles) (s : Segment) → accept_for l p ≡ Ok s → Ranges s × Room s.cycle p
-record_passed l p s e = let a = call_passed l p s e in (a.0.ranges, a.1)
+pub record_passed : (l : List ℕ) (p : Profiles) (s : Segment) → accept_for l p ≡ Ok s → Room s.cycle p
+record_passed l p s e = (call_passed l p s e).1
 
 -- an accepted record has its number's bytes, whatever the lengths of the profiles
-pub number_within : (l : List ℕ) (o f g : ℕ) (s : Segment) → accept_of l o f g ≡ Ok s → number_at + 4 ≤ length l
-number_within l o f g s e = omega (arith, (accept_passed l _ s e).0.sized)
+pub number_within : (l : List ℕ) (p : Profiles) (s : Segment) → accept_of l p ≡ Ok s → number_at + 4 ≤ length l
+number_within l p s e = omega (arith, (accept_passed l _ s e).0.sized)
 
 module _ (l : List ℕ) (p : Profiles) (page : List ℕ) where
   -- accepted: worked, or refused for its volumes or the page buffer

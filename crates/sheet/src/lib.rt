@@ -3,8 +3,7 @@
 
 ghost use Rattle.std.specs.Prelude.{◌≡◌, ◌+◌, ◌≤◌, length};
 ghost use Rattle.buffer.specs.Buffer.{WroteAt};
-ghost use Rattle.ranges.specs.Ranges.{Ranges};
-ghost use Rattle.propagation.specs.Propagation.{filled_of, lent};
+ghost use Rattle.propagation.specs.Propagation.{Same, filled_of, held};
 ghost use Rattle.propagation.specs.Steps.{Room};
 ghost use Rattle.working_outcome.specs.Answer.{worked_of};
 ghost use Rattle.working.specs.Decided.{Decided};
@@ -16,15 +15,17 @@ ghost use Rattle.sheet.specs.Sheet.{Sheets, printed, sheet_by, sheet_called};
 use balance_decision::{Decision, Unworked};
 use buffer::Writer;
 use page::PAGE_ROOM;
+use propagation::LentProfiles;
+use ranges::Accepted;
 use refusal::{Refusal, need};
-use segment::Segment;
 use working_outcome::Working;
 
 // The page of a record that has worked, to the front of a buffer; the place behind it is handed back.
-fn put_page(number: u32, cycle: u32, w: Working, output: &[u32], page: &mut [u8]) -> usize
-    requires { cycle + cycle ≤ length output.now }
-    ensures { WroteAt page.old 0 (worked_page number cycle w output.now) page.new result }
+fn put_page(number: u32, cycle: u32, w: Working, profiles: &LentProfiles, page: &mut [u8]) -> usize
+    requires { cycle + cycle ≤ length profiles.now.output.now }
+    ensures { WroteAt page.old 0 (worked_page number cycle w profiles.now.output.now) page.new result }
 {
+    let output = &*profiles.output;
     let mut text = Writer { bytes: page, at: 0 };
     sheet_page::worked_page(&mut text, number, cycle, w, output);
     text.at
@@ -33,19 +34,18 @@ fn put_page(number: u32, cycle: u32, w: Working, output: &[u32], page: &mut [u8]
 // Fills the profiles of a record that is decided to work, then the page.
 fn fill(
     number: u32,
-    s: Segment,
+    accepted: Accepted,
     decision: Decision,
     page: &mut [u8],
-    output: &mut [u32],
-    first: &mut [u32],
-    second: &mut [u32],
+    profiles: &mut LentProfiles,
 ) -> Working
-    requires { Decided s decision (lent output.old first.old second.old) × (page_room ≤ length page.old) }
-    ensures { sheet_called (Ok result) (lent output.new first.new second.new) page.new
-        ≡ printed number s.cycle (worked_of s decision) (filled_of s decision.pairs.rows (lent output.old first.old second.old)) page.old }
+    requires { Decided accepted decision (held profiles.old) × (page_room ≤ length page.old) }
+    ensures same { Same profiles.old profiles.new }
+    ensures filled { sheet_called (Ok result) (held profiles.new) page.new
+        ≡ printed number accepted.cycle (worked_of accepted decision) (filled_of accepted decision.pairs.rows (held profiles.old)) page.old }
 {
-    let w = working::fill(s, decision, output, first, second);
-    put_page(number, s.cycle, w, &output[..], page);
+    let w = working::fill(accepted, decision, profiles);
+    put_page(number, accepted.segment.cycle, w, profiles, page);
     w
 }
 
@@ -53,20 +53,18 @@ fn fill(
 #[tactic(auto, unfolding(refusal::specs::Refusal::need))]
 fn sheet_accepted(
     number: u32,
-    s: Segment,
+    accepted: Accepted,
     page: &mut [u8],
-    output: &mut [u32],
-    first: &mut [u32],
-    second: &mut [u32],
+    profiles: &mut LentProfiles,
 ) -> Result<Working, Unworked>
-    requires { Ranges s × Room s.cycle (lent output.old first.old second.old) }
-    ensures { sheet_called result (lent output.new first.new second.new) page.new
-        ≡ sheet_by number s.cycle (by_decision s (decision_for s) (lent output.old first.old second.old))
-        (lent output.old first.old second.old) page.old }
+    requires { Room accepted.cycle (held profiles.old) }
+    ensures same { Same profiles.old profiles.new }
+    ensures called { sheet_called result (held profiles.new) page.new
+        ≡ sheet_by number accepted.cycle (by_decision accepted (decision_for accepted) (held profiles.old)) (held profiles.old) page.old }
 {
-    let decision = working::decide(s)?;
+    let decision = working::decide(accepted)?;
     need(Refusal::PageRoom, PAGE_ROOM <= page.len())?;
-    Ok(fill(number, s, decision, page, output, first, second))
+    Ok(fill(number, accepted, decision, page, profiles))
 }
 
 // Works a segment record as `working::work` does, and writes its page to the front of the page buffer. A buffer under PAGE_ROOM is
@@ -74,14 +72,12 @@ fn sheet_accepted(
 pub fn sheet(
     bytes: &[u8],
     page: &mut [u8],
-    output: &mut [u32],
-    first: &mut [u32],
-    second: &mut [u32],
+    profiles: &mut LentProfiles,
 ) -> Result<Working, Unworked>
-    ensures { Sheets bytes.now (lent output.old first.old second.old) page.old
-        result (lent output.new first.new second.new) page.new }
+    ensures same { Same profiles.old profiles.new }
+    ensures sheets { Sheets bytes.now (held profiles.old) page.old result (held profiles.new) page.new }
 {
-    let s = working::accept(bytes, output.len(), first.len(), second.len())?;
+    let accepted = working::accept(bytes, profiles)?;
     let number = octets::word4_at(bytes, segment::NUMBER_AT);
-    sheet_accepted(number, s, page, output, first, second)
+    sheet_accepted(number, accepted, page, profiles)
 }

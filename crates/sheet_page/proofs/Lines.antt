@@ -1,5 +1,5 @@
--- The rows of a run, the next of those left and none; and the page from its parts.
-use Rattle.std.specs.Prelude.{ℕ, suc, ◌+◌, ◌-◌, ◌*◌, ◌≤◌, ◌<◌, min, Bool, true, false, ◌≡◌, refl, List, [], ◌++◌, length, take, drop, leb}
+-- The rows of a run and the lines of the entries, the next of those left and none; and the page from its parts.
+use Rattle.std.specs.Prelude.{ℕ, zero, suc, ◌+◌, ◌-◌, ◌*◌, ◌≤◌, ◌<◌, min, Bool, true, false, ◌≡◌, refl, List, [], ◌++◌, length, take, drop, leb}
 use Rattle.std.proofs.Common.{arith, sym, ◌∙◌, length-append, length-drop, leb-true, leb-false}
 use Rattle.std.proofs.Math.ListN.{drop_of_length-le}
 use Rattle.std.proofs.Math.Seq.{length-take-le}
@@ -13,7 +13,7 @@ use Rattle.page.specs.Page.{page_lines, line, lines, blank_lines, page}
 use Rattle.page.specs.Laws.{lines_append}
 use Rattle.sheet_page.specs.Fits.{head_lines_count}
 use Rattle.sheet_page.proofs.Fits.{flow_lines_count}
-use Rattle.sheet_page.specs.SheetPage.{flow_width, flow_unit, row_steps, rows_for, flow_lines, head_lines, sheet_lines, worked_page}
+use Rattle.sheet_page.specs.SheetPage.{flow_width, flow_unit, row_steps, rows_for, pair_words, pair_lines, flow_lines, head_lines, sheet_lines, worked_page}
 
 -- ---- a run
 
@@ -57,6 +57,20 @@ run_next rest row left e n more =
 pub run_none : (rest : List ℕ) → length rest ≡ 0 → run_lines rest ≡ []
 unfolding flow_lines lines
 run_none rest h = rw h
+
+-- ---- the pair flows
+
+pub pairs_next : (rows : List (List ℕ)) (i : ℕ) → i < 4 → lines (drop i (pair_lines rows)) ≡ line (pair_words rows i) ++ lines (drop (i + 1) (pair_lines rows))
+unfolding lines
+pairs_next rows zero h = refl
+pairs_next rows (suc zero) h = refl
+pairs_next rows (suc (suc zero)) h = refl
+pairs_next rows (suc (suc (suc zero))) h = refl
+pairs_next rows (suc (suc (suc (suc i)))) h = absurd (omega arith)
+
+pub pairs_none : (rows : List (List ℕ)) (i : ℕ) → 4 ≤ i → lines (drop i (pair_lines rows)) ≡ []
+unfolding lines
+pairs_none rows i h = rw (drop_of_length-le (pair_lines rows) {i = i} h) refl
 
 -- ---- the page
 

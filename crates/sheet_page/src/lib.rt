@@ -54,22 +54,16 @@ fn columns_line(text: &mut Writer, width: usize, unit: u32, numbers: &[u32])
     line(text, |text| append_columns(text, width, unit, numbers));
 }
 
-// The four pair flows of an entry.
-fn pair_line(text: &mut Writer, row: [u32; 4])
-    ensures { Wrote text.old (line (columns pair_width pair_unit row)) text.new }
-{
-    columns_line(text, PAIR_WIDTH, PAIR_UNIT, &row);
-}
-
+// A line for each entry: what it sends to each exit.
 fn pair_lines(text: &mut Writer, rows: [[u32; 4]; 4])
     ensures { Wrote text.old (lines (pair_lines rows)) text.new }
 {
-    pair_line(text, rows[0]);
-    pair_line(text, rows[1]);
-    pair_line(text, rows[2]);
-    pair_line(text, rows[3]);
+    for row in &rows {
+        columns_line(text, PAIR_WIDTH, PAIR_UNIT, row);
+    }
 }
 
+// Three calls: a loop over pairs of label and figures is longer.
 fn exit_lines(text: &mut Writer, w: Working)
     ensures { Wrote text.old (lines (exit_lines w)) text.new }
 {
@@ -115,6 +109,7 @@ pub fn refused_page(text: &mut Writer, number: u32, k: u32)
 }
 
 // The page of a record by what its working answered. The output is looked at where it has worked, and is asked to hold the run there.
+// A match: two closures, one for each answer, cannot both hold the text.
 #[tactic(auto, unfolding(crate::specs::SheetPage::record_page))]
 pub fn record_page(
     text: &mut Writer,

@@ -1,7 +1,12 @@
 -- The profiles are filled, then the page from what was answered and left.
-use Rattle.propagation.specs.Propagation.{profiles}
-use Rattle.sheet.proofs.Deciding.{sheet_filled}
+use Rattle.sheet.proofs.Deciding.{run_stands, sheet_filled}
 use Rattle.sheet.proofs.fill.Goals as goal
 
-pub returns : goal.returns
-returns c = sheet_filled c.requires.0 _ c.ranges.number.fits {p' = profiles _ _ _} c.fill-w.ensures _ c.requires.1 c.put_page.ensures
+pub put_page-requires : goal.put_page-requires
+put_page-requires c = rw c.accepted.view_is (run_stands c.requires.0 c.fill-w.ensures.worked)
+
+pub returns-clause-filled : goal.returns-clause-filled
+returns-clause-filled c =
+    rw (← c.accepted.view_is)
+    (sheet_filled c.accepted.invariant (rw (← c.accepted.view_is) at c.requires.0) _ c.ranges.number.fits
+    (rw (← c.accepted.view_is) at c.fill-w.ensures.worked) _ c.requires.1 c.put_page.ensures)

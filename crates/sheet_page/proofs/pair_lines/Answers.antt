@@ -1,11 +1,13 @@
--- What the four calls wrote, one after another, are the lines.
-use Rattle.std.proofs.Common.{append_assoc, append-nil}
-use Rattle.buffer.proofs.Pieces.{◌then◌}
-use Rattle.page.specs.Page.{lines}
+-- The next entry's line is the first of those left.
+use Rattle.buffer.proofs.Pieces.{appending_start, appending_turn, appending_done}
+use Rattle.sheet_page.proofs.Lines.{pairs_next, pairs_none}
 use Rattle.sheet_page.proofs.pair_lines.Goals as goal
 
+pub loop-row-init : goal.loop-row-init
+loop-row-init c = appending_start _ _
+
+pub loop-row-preserved : goal.loop-row-preserved
+loop-row-preserved c = appending_turn c.loop-row.invariant c.columns_line.ensures _ (pairs_next c.args.rows _ c.loop-row-test.true)
+
 pub returns : goal.returns
-unfolding lines
-returns c =
-    let signalised = c.pair_line.ensures then c.pair_line-2.ensures then c.pair_line-3.ensures in
-    rw append-nil (simp append_assoc at (signalised then c.pair_line-4.ensures))
+returns c = appending_done c.loop-row.invariant (pairs_none c.args.rows _ c.loop-row-test.false)

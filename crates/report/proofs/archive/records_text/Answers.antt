@@ -5,7 +5,7 @@ use Rattle.report.proofs.Records.{report_start, report_turn, report_done}
 use Rattle.report.proofs.archive.records_text.Goals as goal
 
 pub loop-init : goal.loop-init
-loop-init c = report_start _ c.requires.0 _
+loop-init c = report_start _ c.requires _
 
 pub overflow_add-bytes : goal.overflow_add-bytes
 overflow_add-bytes c = omega (arith, walk_fits c.loop.invariant.walk (omega (arith, c.loop-test.true)))

@@ -1,18 +1,18 @@
 -- The record is worked from its own bytes, and its lines or its page are printed.
-use Rattle.propagation.specs.Propagation.{profiles}
+use Rattle.std.proofs.Common.{rules}
 use Rattle.report.specs.declared.Form.TheVariants.{Lines, Sheet}
-use Rattle.report.proofs.Records.{worked_in, run_stands}
+use Rattle.report.proofs.Records.{longest_fit, worked_in, run_stands}
 use Rattle.report.proofs.archive.segment_text.Goals as goal
 
 pub record_page-requires : goal.record_page-requires
-record_page-requires c = run_stands _ {p' = profiles _ _ _} c.requires.1 c.work-answer.ensures c.word2_at-cycle.ensures.0 c.work-answer.auto.output
+record_page-requires c = run_stands _ (longest_fit (search rules) (search rules) (search rules)) c.work-answer.ensures.works c.word2_at-cycle.ensures.0
 
 pub returns-in-Lines : goal.returns-in-Lines
 returns-in-Lines c =
-    worked_in _ {p' = profiles _ _ _} c.requires.1 c.work-answer.ensures c.word2_at-cycle.ensures.0 Lines c.in-Lines.is
-    c.word4_at-number.ensures c.record_text.ensures
+    worked_in _ (longest_fit (search rules) (search rules) (search rules)) c.work-answer.ensures.works c.word2_at-cycle.ensures.0 Lines c.in-Lines.is c.word4_at-number.ensures
+    c.record_text.ensures
 
 pub returns-in-Sheet : goal.returns-in-Sheet
 returns-in-Sheet c =
-    worked_in _ {p' = profiles _ _ _} c.requires.1 c.work-answer.ensures c.word2_at-cycle.ensures.0 Sheet c.in-Sheet.is
-    c.word4_at-number.ensures c.record_page.ensures
+    worked_in _ (longest_fit (search rules) (search rules) (search rules)) c.work-answer.ensures.works c.word2_at-cycle.ensures.0 Sheet c.in-Sheet.is c.word4_at-number.ensures
+    c.record_page.ensures
