@@ -4,7 +4,7 @@ use Rattle.std.proofs.Common.{arith, ap, sym, ◌∙◌, length-append, leb-true
 use Rattle.std.proofs.lemmas.List.Edits.{sets, sets-eq}
 use Rattle.std.proofs.Math.Seq.{length-sets}
 use Rattle.buffer.specs.declared.Writer.{Writer}
-use Rattle.buffer.specs.Buffer.{Cursor, cursor, put, next_place, Wrote, WroteAt}
+use Rattle.buffer.specs.Buffer.{Cursor, cursor, cursor_of, put, next_place, Wrote, WroteAt}
 use Rattle.buffer.specs.Pieces.{sets_out, sets_append, Appending}
 
 by_room : (l : List ℕ) (at i : ℕ) (vs : List ℕ) → at ≤ i → sets l (max at (min i (length l))) vs ≡ sets l i vs
@@ -43,6 +43,11 @@ put_long : (c : Cursor) (piece : List ℕ) → length (put c piece).buffer ≡ l
 unfolding put
 put_long c piece = length-sets c.buffer c.at piece
 
+pub wrote_long : {t t' : Writer} {x : List ℕ} → Wrote t x t' → length t'.bytes.now ≡ length t.bytes.now
+wrote_long {t} {t'} {x} w =
+    let e : t'.bytes.now ≡ (put (cursor_of t) x).buffer = ap (λ (q : Cursor). q.buffer) w.is in
+    rw e (put_long (cursor_of t) x)
+
 -- where the buffer is full nothing more is put, whatever it is
 put_full : (c : Cursor) (piece : List ℕ) → length c.buffer ≤ c.at → put c piece ≡ c
 unfolding put next_place
@@ -59,6 +64,11 @@ put_ended end c x = put_append c x (end (length x)) ∙ go (leb (c.at + length x
         let full : length (put c x).buffer ≤ (put c x).at = omega (arith, put_long c x, leb-false (c.at + length x) (length c.buffer) e) in
         put_full (put c x) _ full ∙ sym (put_full (put c x) _ full)
 
+pub ended_by : {t t' t'' : Writer} {x : List ℕ} (end : ℕ → List ℕ) → Wrote t x t' → Wrote t' (end (t'.at - t.at)) t'' → Wrote t (x ++ end (length x)) t''
+ended_by {t} {t'} {t''} {x} end u v =
+    let took : t'.at ≡ (put (cursor_of t) x).at = ap (λ (q : Cursor). q.at) u.is in
+    record { lent = v.lent ∙ u.lent; is = v.is ∙ rw (u.is, took) (sym (put_ended end (cursor_of t) x)) }
+
 pub appending_start : (t : Writer) (whole : List ℕ) → Appending t whole t whole
 appending_start t whole = record { lent = refl; same = refl }
 
@@ -70,6 +80,11 @@ module _ {t₀ t : Writer} {whole rest : List ℕ} (r : Appending t₀ whole t r
   pub appending_done : rest ≡ [] → Wrote t₀ whole t
   appending_done e = record { lent = r.lent; is = sym (r.same ∙ rw e (put_nil t.bytes.now t.at)) }
 
+  -- the buffer keeps its length
+  pub appending_long : length t.bytes.now ≡ length t₀.bytes.now
+  appending_long =
+      sym (put_long (cursor_of t) rest) ∙ ap (λ (q : Cursor). length q.buffer) (sym r.same) ∙ put_long (cursor_of t₀) whole
+
 -- a writer made at a place of a buffer: what it put is what stands there
 pub wrote_at : {t t' : Writer} {x : List ℕ} → Wrote t x t' → WroteAt t.bytes.now t.at x t'.bytes.now t'.at
 wrote_at w = record { is = w.is }
@@ -80,7 +95,14 @@ pub wrote_fits : {b : List ℕ} {at : ℕ} {t b' : List ℕ} {p : ℕ} → Wrote
 unfolding put next_place
 wrote_fits {b} {at} {t} w h = (ap (λ (q : Cursor). q.buffer) w.is ∙ sets-eq t b at h, ap (λ (q : Cursor). q.at) w.is ∙ omega arith)
 
--- the next place lies within the buffer
+-- the next place does not lie before the piece
+pub wrote_on : {t t' : Writer} {x : List ℕ} → Wrote t x t' → t.at ≤ t'.at
+unfolding put next_place
+wrote_on {t} {t'} {x} w =
+    let e : t'.at ≡ max t.at (min (t.at + length x) (length t.bytes.now)) = ap (λ (q : Cursor). q.at) w.is in
+    omega arith
+
+-- and lies within the buffer
 pub wrote_within : {b : List ℕ} {at : ℕ} {t b' : List ℕ} {p : ℕ} → WroteAt b at t b' p → at ≤ length b → p ≤ length b'
 unfolding put next_place
 wrote_within {b} {at} {t} {b'} {p} w h =

@@ -1,9 +1,9 @@
 -- Laws of lines: one ended by the places that its text took, and lines one after another.
 use Rattle.std.specs.Prelude.{ℕ, ◌-◌, ◌≡◌, refl, List, [], ◌∷◌, ◌++◌}
-use Rattle.std.proofs.Common.{ap, sym, ◌∙◌, append_assoc, append-nil}
+use Rattle.std.proofs.Common.{ap, append_assoc, append-nil}
 use Rattle.buffer.specs.declared.Writer.{Writer}
-use Rattle.buffer.specs.Buffer.{Cursor, cursor_of, put, Wrote}
-use Rattle.buffer.proofs.Pieces.{put_append, put_ended}
+use Rattle.buffer.specs.Buffer.{Cursor, put, Wrote}
+use Rattle.buffer.proofs.Pieces.{put_append, put_ended, ended_by}
 use Rattle.page.specs.Page.{line, line_end, lines}
 
 pub put_line : (c : Cursor) (x : List ℕ) → put c (line x) ≡ put (put c x) (line_end ((put c x).at - c.at))
@@ -11,9 +11,8 @@ unfolding line
 put_line c x = put_ended line_end c x
 
 pub line_ended : {t t' t'' : Writer} {x : List ℕ} → Wrote t x t' → Wrote t' (line_end (t'.at - t.at)) t'' → Wrote t (line x) t''
-line_ended {t} {t'} {x} u v =
-    let took : t'.at ≡ (put (cursor_of t) x).at = ap (λ (c : Cursor). c.at) u.is in
-    record { lent = v.lent ∙ u.lent; is = v.is ∙ rw (u.is, took) (sym (put_line (cursor_of t) x)) }
+unfolding line
+line_ended u v = ended_by line_end u v
 
 pub lines_append : (ts us : List (List ℕ)) → lines (ts ++ us) ≡ lines ts ++ lines us
 unfolding lines

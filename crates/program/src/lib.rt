@@ -55,6 +55,7 @@ pub fn write_answer<W: Write>(
 
 // The text of an input to a lent buffer that has room for every text of its form.
 // A match on the form: `report` has a public call for each, since C calls both.
+#[tactic(auto, using(report::proofs::Whole::report_text, report::proofs::Whole::sheets_text))]
 fn make_text(form: Form, input: &[u8], text: &mut [u8]) -> Result<usize, Refusal>
     requires { text_room form ≤ length text.old }
     ensures { Text form input.now text.new result }
