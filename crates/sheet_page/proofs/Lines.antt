@@ -1,9 +1,9 @@
 -- The rows of a run and the lines of the entries, the next of those left and none; and the page from its parts.
 use Rattle.std.specs.Prelude.{ℕ, zero, suc, ◌+◌, ◌-◌, ◌*◌, ◌≤◌, ◌<◌, min, Bool, true, false, ◌≡◌, refl, List, [], ◌++◌, length, take, drop, leb}
-use Rattle.std.proofs.Common.{arith, sym, ◌∙◌, length-append, length-drop, leb-true, leb-false}
+use Rattle.std.proofs.Common.{arith, ap, sym, ◌∙◌, length-append, length-drop, leb-true, leb-false}
 use Rattle.std.proofs.Math.ListN.{drop_of_length-le}
 use Rattle.std.proofs.Math.Seq.{length-take-le}
-use Rattle.std.proofs.lemmas.List.{take_all, take_at, drop_at}
+use Rattle.std.proofs.lemmas.List.{take_at, drop_at, take_min, drop_min}
 use Rattle.buffer.specs.Buffer.{Cursor, put}
 use Rattle.buffer.proofs.Pieces.{put_append}
 use Rattle.working_outcome.specs.declared.Working.{Working}
@@ -20,24 +20,6 @@ use Rattle.sheet_page.specs.SheetPage.{flow_width, flow_unit, row_steps, rows_fo
 abbrev pub run_lines : List ℕ → List ℕ
 run_lines run = lines (flow_lines (rows_for (length run)) run)
 
--- as many of a list as there are, of so many wanted
-module _ (k : ℕ) (l : List ℕ) {n : ℕ} (e : n ≡ min k (length l)) where
-  take_least : take n l ≡ take k l
-  take_least = go (leb k (length l)) refl
-    where
-      go : (b : Bool) → leb k (length l) ≡ b → take n l ≡ take k l
-      go true h = let m : n ≡ k = omega (arith, leb-true k (length l) h) in rw m
-      go false h = let m : length l < k = leb-false k (length l) h in take_all n l (omega arith) ∙ sym (take_all k l (omega arith))
-
-  drop_least : drop n l ≡ drop k l
-  drop_least = go (leb k (length l)) refl
-    where
-      go : (b : Bool) → leb k (length l) ≡ b → drop n l ≡ drop k l
-      go true h = let m : n ≡ k = omega (arith, leb-true k (length l) h) in rw m
-      go false h =
-          let m : length l < k = leb-false k (length l) h in
-          drop_of_length-le l {i = n} (omega arith) ∙ sym (drop_of_length-le l {i = k} (omega arith))
-
 rows_next : (n : ℕ) → 0 < n → rows_for n ≡ suc (rows_for (n - row_steps))
 rows_next n h = omega arith
 
@@ -51,7 +33,9 @@ pub run_next : (rest row left : List ℕ) → rest ≡ row ++ left → length ro
 run_next rest row left e n more =
     let front : take (length row) rest ≡ row = rw e (take_at row left (length row) refl) in
     let behind : drop (length row) rest ≡ left = rw e (drop_at row left (length row) refl) in
-    rw (← (take_least row_steps rest n), front, ← (drop_least row_steps rest n), behind) at (run_first rest more)
+    let first : take (length row) rest ≡ take row_steps rest = ap (λ k. take k rest) n ∙ take_min row_steps rest in
+    let others : drop (length row) rest ≡ drop row_steps rest = ap (λ k. drop k rest) n ∙ drop_min row_steps rest in
+    rw (← first, front, ← others, behind) at (run_first rest more)
 
 pub run_none : (rest : List ℕ) → length rest ≡ 0 → run_lines rest ≡ []
 unfolding flow_lines lines
