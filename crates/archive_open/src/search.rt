@@ -8,7 +8,7 @@ use crate::next_place;
 use refusal::Refusal;
 
 // The place of the record with a number, among so many from place 0 on; 6 where there is none. Of an archive that was read, `walk` says
-// what this asks.
+// what this asks; parts, so that it asks no more. Its own loop, as each walk over records has: what is done at each differs.
 pub fn seek(size: usize, s: &[u8], count: usize, number: u32) -> Result<usize, Refusal>
     requires { Sized size × Walk size s.now count 0 }
     ensures { result ≡ find_in size 0 (filed_from size count s.now 0) number }

@@ -68,7 +68,8 @@ impl Share for Pair {
     ghost none = { λ s. parts_none s.v s.w s.carry };
 }
 
-// The part of each arrival is added to a run where its step lands.
+// The part of each arrival is added to a run where its step lands. Arrivals and the time t stand apart here and below: the definition
+// `added` takes each by itself, and a struct of both would only be taken apart.
 fn add_parts<S: Share + Copy>(arrived: &[u32], mut share: S, t: u32, run: &mut [u32])
     requires fits { LandsFit t arrived.now run.old }
     requires fair { S.fair share }

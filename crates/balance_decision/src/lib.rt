@@ -75,7 +75,8 @@ fn settled_to(o: Counts, b: Balance) -> Result<Decision, Unworked>
     }
 }
 
-// The refusals in their order, then the settling and its pair flows.
+// The refusals in their order, then the settling and its pair flows. The volumes' limit is asked here and where pair flows are made, not
+// held by a type: the refusals and the settling read the same volumes as plain counts.
 #[tactic(auto, unfolding(crate::specs::Decision::decision_of, refusal::specs::Refusal::need))]
 pub fn decide(o: Counts, exits: Counts, seeds: Seeds) -> Result<Decision, Unworked>
     requires { WithinLimit o }

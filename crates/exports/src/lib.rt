@@ -24,6 +24,8 @@ use propagation::LentProfiles;
 use refusal::Refusal;
 use working_outcome::Working;
 
+// The calls below are one function each over the call that each comment names, since C has a name for each.
+
 // A working's answer: 0 and 15 tell the last sum.
 #[repr(C)]
 #[derive(Clone, Copy)]

@@ -34,13 +34,14 @@ fn segment_text(form: Form, text: &mut Writer, bytes: &[u8], profiles: &mut Long
         second: &mut profiles.second,
     };
     let answer = working::work(bytes, &mut lent);
+    // A match: the form is a value that the calls and the programs pass.
     match form {
         Form::Lines => report_record::record_text(text, number, cycle, answer),
         Form::Sheet => sheet_page::record_page(text, number, cycle, answer, lent.output),
     }
 }
 
-// So many records from place 0 on, in order. The profiles are made once for all of them.
+// So many records from place 0 on, in order. The profiles are made once for all of them. Its own loop, as each walk over records has.
 fn records_text(form: Form, text: &mut Writer, archive: &[u8], count: usize)
     requires { Walk size archive.now count 0 }
     ensures { Wrote text.old (records_text form (filed_from size count archive.now 0)) text.new }

@@ -20,7 +20,8 @@ use ranges::Accepted;
 use refusal::{Refusal, need};
 use working_outcome::Working;
 
-// The page of a record that has worked, to the front of a buffer; the place behind it is handed back.
+// The page of a record that has worked, to the front of a buffer; the place behind it is handed back, as the contract
+// names it.
 fn put_page(number: u32, cycle: u32, w: Working, profiles: &LentProfiles, page: &mut [u8]) -> usize
     requires { cycle + cycle ≤ length profiles.now.output.now }
     ensures { WroteAt page.old 0 (worked_page number cycle w profiles.now.output.now) page.new result }
