@@ -3,6 +3,7 @@
 
 use archive_format::TitlePart;
 use points::{Point, Points};
+use propagation::LentProfiles;
 use refusal::Refusal;
 use std::io;
 
@@ -115,7 +116,12 @@ fn work(rt: &impl Print, record: &[u8]) -> io::Result<()> {
     let mut output = [0u32; limits::OUTPUT_ROOM];
     let mut first = [0u32; limits::CYCLE_ROOM];
     let mut second = [0u32; limits::CYCLE_ROOM];
-    match working::work(record, &mut output, &mut first, &mut second) {
+    let mut profiles = LentProfiles {
+        output: &mut output,
+        first: &mut first,
+        second: &mut second,
+    };
+    match working::work(record, &mut profiles) {
         Ok(w) => say(rt, "permille on green", w.through.permille as u64),
         Err(unworked) => refused(rt, unworked.number()),
     }
@@ -131,7 +137,12 @@ fn print_sheet(rt: &impl Print, record: &[u8]) -> io::Result<()> {
     let mut output = [0u32; limits::OUTPUT_ROOM];
     let mut first = [0u32; limits::CYCLE_ROOM];
     let mut second = [0u32; limits::CYCLE_ROOM];
-    match sheet::sheet(record, &mut page, &mut output, &mut first, &mut second) {
+    let mut profiles = LentProfiles {
+        output: &mut output,
+        first: &mut first,
+        second: &mut second,
+    };
+    match sheet::sheet(record, &mut page, &mut profiles) {
         Ok(_) => show(rt, &page[0..730]),
         Err(unworked) => refused(rt, unworked.number()),
     }
@@ -164,15 +175,12 @@ fn work_points(rt: &impl Print, record: &[u8]) -> io::Result<()> {
     let mut passing = [0u32; 2 * limits::CYCLE_ROOM];
     let mut first = [0u32; limits::CYCLE_ROOM];
     let mut second = [0u32; limits::CYCLE_ROOM];
-    let answer = point_working::work_points(
-        record,
-        two_points(),
-        &mut output,
-        &mut passing,
-        &mut first,
-        &mut second,
-    );
-    match answer {
+    let mut profiles = LentProfiles {
+        output: &mut output,
+        first: &mut first,
+        second: &mut second,
+    };
+    match point_working::work_points(record, two_points(), &mut profiles, &mut passing) {
         Ok(w) => {
             let blocked = w.blocked;
             tell_blocked(rt, blocked)

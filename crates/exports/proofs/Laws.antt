@@ -1,11 +1,13 @@
 -- Laws of specs/Exports.antt: the discharge call and the calls that write, in numbers.
 use Rattle.std.specs.Prelude.{ℕ, ◌≡◌, refl, List, Ok, Err}
-use Rattle.std.proofs.Common.{ap, ◌∙◌}
+use Rattle.std.proofs.Common.{ap, sym, ◌∙◌}
 use Rattle.refusal.specs.Refusal.{Or}
 use Rattle.refusal.specs.Numbers.{never_0}
 use Rattle.movements.specs.declared.Signalised.{Signalised}
 use Rattle.segment.specs.Segment.{segment_of}
 use Rattle.discharge.specs.Discharge.{EntriesDischarge, Calls}
+use Rattle.propagation.specs.declared.LentProfiles.{LentProfiles}
+use Rattle.propagation.specs.Propagation.{Same}
 use Rattle.archive_format.specs.Archive.{Writes}
 use Rattle.exports.specs.declared.VolumesAnswer.{VolumesAnswer}
 use Rattle.exports.specs.declared.ValueAnswer.{ValueAnswer}
@@ -30,3 +32,7 @@ segment_discharges l p d p' r calls e =
 pub archive_writes : {x : Or (List ℕ)} {before : List ℕ} {a : Or ℕ} {after : List ℕ} {r : ValueAnswer} → Writes x before a after → r ≡ value_answer a
     → ArchiveWrites x before r after
 archive_writes w e = record { answer = e ∙ ap value_answer w.answer; buffer = w.buffer }
+
+-- what a call left is read through the references that it was lent by the names of these
+pub same_back : {p p' : LentProfiles} → Same p p' → Same p' p
+same_back s = record { output = sym s.output; first = sym s.first; second = sym s.second }

@@ -1,8 +1,9 @@
 // The library's calls for programs in C or Rust: a slice passes as a pointer and a length, an answer is a struct of numbers.
 // `number` is the paper's number of a refusal, 0 where the call accepts; what a refusal does not tell is 0.
 // A pointer is to as many numbers as its length says, aligned as their type; with length 0 it may be any, null too.
-// What a call writes overlaps nothing else that it is lent. Contracts go by the names of fields and parameters, so that their order
-// in a caller's declaration is compared by runs alone (reference/linked).
+// What a call writes overlaps nothing else that it is lent. Each profile comes by itself, since the C interface has a pointer and a length
+// for each. Contracts go by the names of fields and parameters, so that their order in a caller's declaration is compared by runs
+// alone (reference/linked).
 #![tactic(auto)]
 
 ghost use Rattle.std.specs.Prelude.{◌≡◌, length};
@@ -19,6 +20,7 @@ use movements::Signalised;
 use pair_flows::PairFlows;
 use point_working::PointWorking;
 use points::Points;
+use propagation::LentProfiles;
 use refusal::Refusal;
 use working_outcome::Working;
 
@@ -202,7 +204,12 @@ pub extern "C" fn segment_work(
     ensures { SegmentWorks bytes.now (lent output.old first.old second.old)
         result (lent output.new first.new second.new) }
 {
-    working::work(bytes, output, first, second).into()
+    let mut profiles = LentProfiles {
+        output,
+        first,
+        second,
+    };
+    working::work(bytes, &mut profiles).into()
 }
 
 // `point_working::work_points`; the points pass by value.
@@ -218,7 +225,12 @@ pub extern "C" fn segment_work_points(
     ensures { SegmentPointWorks bytes.now points (lent output.old first.old second.old) passing.old
         result (lent output.new first.new second.new) passing.new }
 {
-    point_working::work_points(bytes, points, output, passing, first, second).into()
+    let mut profiles = LentProfiles {
+        output,
+        first,
+        second,
+    };
+    point_working::work_points(bytes, points, &mut profiles, passing).into()
 }
 
 // `sheet::sheet`: 21 where the page buffer is under 4380 bytes.
@@ -233,7 +245,12 @@ pub extern "C" fn segment_sheet(
     ensures { SegmentSheets bytes.now (lent output.old first.old second.old) page.old
         result (lent output.new first.new second.new) page.new }
 {
-    sheet::sheet(bytes, page, output, first, second).into()
+    let mut profiles = LentProfiles {
+        output,
+        first,
+        second,
+    };
+    sheet::sheet(bytes, page, &mut profiles).into()
 }
 
 // `discharge::discharge`.

@@ -6,8 +6,9 @@ ghost use Rattle.std.specs.Prelude.{◌+◌, ◌≤◌, length};
 use balance_decision::Unworked;
 use point_working::PointWorking;
 use points::{Point, Points};
+use propagation::LentProfiles;
 use std::io;
-use vectors::{Profiles, ROOM};
+use vectors::ROOM;
 
 fn point_at(s: &[u8], at: usize) -> Point
     requires { at + 8 ≤ length s.now }
@@ -51,17 +52,6 @@ fn answer_differs(expected: &[u8; 36], answer: Result<PointWorking, Unworked>) -
     }
 }
 
-fn work(record: &[u8], points: Points, lent: &mut Profiles) -> Result<PointWorking, Unworked> {
-    point_working::work_points(
-        record,
-        points,
-        lent.output,
-        lent.passing,
-        lent.first,
-        lent.second,
-    )
-}
-
 // One call, on profiles of the lengths of a case; one longer than the longest differs. Their numbers after the call come last.
 fn call_differs(
     record: &[u8],
@@ -81,15 +71,15 @@ fn call_differs(
     let mut passing = [0u32; ROOM];
     let mut first = [0u32; ROOM];
     let mut second = [0u32; ROOM];
-    let mut lent = Profiles {
+    let mut profiles = LentProfiles {
         output: &mut output[..o],
-        passing: &mut passing[..q],
         first: &mut first[..f],
         second: &mut second[..s],
     };
-    lent.fill();
-    let answer = work(record, points, &mut lent);
-    answer_differs(expected, answer) | lent.differ(numbers)
+    let passing = &mut passing[..q];
+    vectors::fill_profiles(&mut profiles, passing);
+    let answer = point_working::work_points(record, points, &mut profiles, passing);
+    answer_differs(expected, answer) | vectors::profiles_differ(&profiles, passing, numbers)
 }
 
 // After the record stand the points, the profiles' lengths, what must be answered, and the profiles.

@@ -3,8 +3,9 @@
 #![tactic(auto)]
 
 use balance_decision::Unworked;
+use propagation::LentProfiles;
 use std::io;
-use vectors::{Profiles, ROOM};
+use vectors::ROOM;
 use working_outcome::Working;
 
 // The longest page buffer that a case lends.
@@ -17,10 +18,6 @@ fn answer_differs(expected: &[u8; 12], answer: Result<Working, Unworked>) -> boo
         Err(u) => (u.number(), u.last_sum()),
     };
     (octets::word4_at(expected, 0) != number) | vectors::float_differs(expected, 4, sum)
-}
-
-fn sheet(record: &[u8], page: &mut [u8], lent: &mut Profiles) -> Result<Working, Unworked> {
-    sheet::sheet(record, page, lent.output, lent.first, lent.second)
 }
 
 // After the record stand the lengths, what must be answered, the page buffer and the profiles after the call. A longer one than the longest
@@ -44,16 +41,16 @@ fn case_differs(record: &[u8], rest: &[u8]) -> bool {
     let mut first = [0u32; ROOM];
     let mut second = [0u32; ROOM];
     let page = &mut page[..t];
-    let mut lent = Profiles {
+    let mut profiles = LentProfiles {
         output: &mut output[..o],
-        passing: &mut [],
         first: &mut first[..f],
         second: &mut second[..s],
     };
     vectors::fill_bytes(page);
-    lent.fill();
-    let answer = sheet(record, page, &mut lent);
-    answer_differs(expected, answer) | (&*page != &rest[..t]) | lent.differ(&rest[t..])
+    vectors::fill_profiles(&mut profiles, &mut []);
+    let answer = sheet::sheet(record, page, &mut profiles);
+    let differ = vectors::profiles_differ(&profiles, &[], &rest[t..]);
+    answer_differs(expected, answer) | (&*page != &rest[..t]) | differ
 }
 
 fn main(rt: HostRuntime) -> io::Result<()> {

@@ -6,9 +6,9 @@ use Rattle.std.specs.Float.{binary64}
 use Rattle.std.specs.Float.Ieee.{to_bits}
 use Rattle.octets.specs.Octets.{word2, word4, word8}
 use Rattle.lists.specs.Lists.{tab}
+use Rattle.propagation.specs.Propagation.{Profiles}
 use Rattle.text.specs.Text.{decimal, field}
 use Rattle.text.specs.Words.{bytes}
-use Rattle.vectors.specs.declared.Profiles.{Profiles}
 use Rattle.vectors.specs.declared.TheConstants.{ROOM, OUTPUT_FROM, PASSING_FROM, FIRST_FROM, SECOND_FROM}
 
 -- a body's record, as long as its first two bytes say, and what follows it
@@ -58,24 +58,20 @@ abbrev pub Told : Option (List ℕ) → Option (List ℕ) → Type 0
 Told old new = (lines : List ℕ) × (cases : ℕ) × (differing : ℕ) × (differing ≤ cases) × Appends old new (lines ++ closing_line cases differing)
 
 -- lent profiles that are no longer than a case lends them
-abbrev pub Lendable : Profiles → Type 0
-Lendable p = (length p.output.now ≤ ROOM) × (length p.passing.now ≤ ROOM) × (length p.first.now ≤ ROOM) × (length p.second.now ≤ ROOM)
+abbrev pub Lendable : Profiles → List ℕ → Type 0
+Lendable p q = (length p.output ≤ ROOM) × (length q ≤ ROOM) × (length p.first ≤ ROOM) × (length p.second ≤ ROOM)
 
 -- lent profiles that got their patterns
-pub record Patterned (p p' : Profiles) : Type 0 where
-  pub output : p'.output.now ≡ pattern OUTPUT_FROM (length p.output.now)
-  pub passing : p'.passing.now ≡ pattern PASSING_FROM (length p.passing.now)
-  pub first : p'.first.now ≡ pattern FIRST_FROM (length p.first.now)
-  pub second : p'.second.now ≡ pattern SECOND_FROM (length p.second.now)
-  pub output_name : p'.output.ghost_name ≡ p.output.ghost_name
-  pub passing_name : p'.passing.ghost_name ≡ p.passing.ghost_name
-  pub first_name : p'.first.ghost_name ≡ p.first.ghost_name
-  pub second_name : p'.second.ghost_name ≡ p.second.ghost_name
+pub record Patterned (p : Profiles) (q : List ℕ) (p' : Profiles) (q' : List ℕ) : Type 0 where
+  pub output : p'.output ≡ pattern OUTPUT_FROM (length p.output)
+  pub passing : q' ≡ pattern PASSING_FROM (length q)
+  pub first : p'.first ≡ pattern FIRST_FROM (length p.first)
+  pub second : p'.second ≡ pattern SECOND_FROM (length p.second)
 
 -- some number of the profiles is not, one profile after another
-unfoldable pub profiles_differ : List ℕ → Profiles → Bool
-profiles_differ l p =
-    let passing = drop (4 * length p.output.now) l in
-    let first = drop (4 * length p.passing.now) passing in
-    let second = drop (4 * length p.first.now) first in
-    profile_differs l p.output.now || profile_differs passing p.passing.now || profile_differs first p.first.now || profile_differs second p.second.now
+unfoldable pub profiles_differ : List ℕ → Profiles → List ℕ → Bool
+profiles_differ l p q =
+    let passing = drop (4 * length p.output) l in
+    let first = drop (4 * length q) passing in
+    let second = drop (4 * length p.first) first in
+    profile_differs l p.output || profile_differs passing q || profile_differs first p.first || profile_differs second p.second

@@ -5,9 +5,11 @@ ghost use Rattle.std.specs.Prelude.{◌≡◌, ◌+◌, ◌-◌, ◌*◌, ◌≤
 ghost use Rattle.std.specs.Io.KnownBytes.{Appends};
 ghost use Rattle.octets.specs.Octets.{word2, word4};
 ghost use Rattle.buffer.specs.Buffer.{WroteAt, next_place};
+ghost use Rattle.propagation.specs.Propagation.{Same, held};
 ghost use Rattle.vectors.specs.Vectors.{Adds, IsRecordAndRest, Lendable, Patterned, Told, byte_pattern, closing_line, float_differs, pattern, profile_differs, profiles_differ, rows_differ, words_differ};
 
 use buffer::Writer;
+use propagation::LentProfiles;
 use std::io;
 use std::io::{Read, Write};
 use std::num::f64_to_bits_with_nan;
@@ -184,40 +186,30 @@ pub fn after<'a>(expected: &'a [u8], n: usize) -> &'a [u8]
     expected.get(n.saturating_mul(4)..).unwrap_or(&[])
 }
 
-// The profiles that a call is lent: output, point profiles (none where it has no points), first and second work profile.
-#[derive(Drop)]
-pub struct Profiles<'a> {
-    pub output: &'a mut [u32],
-    pub passing: &'a mut [u32],
-    pub first: &'a mut [u32],
-    pub second: &'a mut [u32],
+// The profiles that a call is lent get their patterns; no point profiles where it has no points.
+pub fn fill_profiles(profiles: &mut LentProfiles, passing: &mut [u32])
+    requires { Lendable (held profiles.old) passing.old }
+    ensures same { Same profiles.old profiles.new }
+    ensures filled { Patterned (held profiles.old) passing.old (held profiles.new) passing.new }
+{
+    fill_pattern(profiles.output, OUTPUT_FROM);
+    fill_pattern(passing, PASSING_FROM);
+    fill_pattern(profiles.first, FIRST_FROM);
+    fill_pattern(profiles.second, SECOND_FROM);
 }
 
-impl<'a> Profiles<'a> {
-    // Each gets its pattern.
-    pub fn fill(&mut self)
-        requires { Lendable self.old }
-        ensures { Patterned self.old self.new }
-    {
-        fill_pattern(self.output, OUTPUT_FROM);
-        fill_pattern(self.passing, PASSING_FROM);
-        fill_pattern(self.first, FIRST_FROM);
-        fill_pattern(self.second, SECOND_FROM);
-    }
-
-    // Whether a number of theirs differs from those expected, one profile after another.
-    #[tactic(auto, unfolding(crate::specs::Vectors::profiles_differ))]
-    pub fn differ(&self, expected: &[u8]) -> bool
-        ensures { result ≡ profiles_differ expected.now self.now }
-    {
-        let passing = after(expected, self.output.len());
-        let first = after(passing, self.passing.len());
-        let second = after(first, self.first.len());
-        profile_differs(expected, self.output)
-            | profile_differs(passing, self.passing)
-            | profile_differs(first, self.first)
-            | profile_differs(second, self.second)
-    }
+// Whether a number of theirs differs from those expected: the output's, then the points', then the two work profiles'.
+#[tactic(auto, unfolding(crate::specs::Vectors::profiles_differ))]
+pub fn profiles_differ(profiles: &LentProfiles, passing: &[u32], expected: &[u8]) -> bool
+    ensures { result ≡ profiles_differ expected.now (held profiles.now) passing.now }
+{
+    let points = after(expected, profiles.output.len());
+    let first = after(points, passing.len());
+    let second = after(first, profiles.first.len());
+    profile_differs(expected, profiles.output)
+        | profile_differs(points, passing)
+        | profile_differs(first, profiles.first)
+        | profile_differs(second, profiles.second)
 }
 
 // Whether some of the sixteen pair flows differs, in rows from a place on.

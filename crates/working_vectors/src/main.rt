@@ -5,8 +5,9 @@ ghost use Rattle.std.specs.Prelude.{◌+◌, ◌≤◌};
 
 use balance_decision::Unworked;
 use exit_figures::ExitFigures;
+use propagation::LentProfiles;
 use std::io;
-use vectors::{Profiles, ROOM};
+use vectors::ROOM;
 use working_outcome::Working;
 
 fn figures_differ(expected: &[u8; 156], at: usize, exit: ExitFigures) -> bool
@@ -43,10 +44,6 @@ fn answer_differs(expected: &[u8; 156], answer: Result<Working, Unworked>) -> bo
     }
 }
 
-fn work(record: &[u8], lent: &mut Profiles) -> Result<Working, Unworked> {
-    working::work(record, lent.output, lent.first, lent.second)
-}
-
 // After the record stand the profiles' lengths, what must be answered, and the profiles after the call. A longer one than the longest differs.
 fn case_differs(record: &[u8], rest: &[u8]) -> bool {
     let Some((lengths, rest)) = rest.split_first_chunk::<12>() else {
@@ -64,15 +61,14 @@ fn case_differs(record: &[u8], rest: &[u8]) -> bool {
     let mut output = [0u32; ROOM];
     let mut first = [0u32; ROOM];
     let mut second = [0u32; ROOM];
-    let mut lent = Profiles {
+    let mut profiles = LentProfiles {
         output: &mut output[..o],
-        passing: &mut [],
         first: &mut first[..f],
         second: &mut second[..s],
     };
-    lent.fill();
-    let answer = work(record, &mut lent);
-    answer_differs(expected, answer) | lent.differ(numbers)
+    vectors::fill_profiles(&mut profiles, &mut []);
+    let answer = working::work(record, &mut profiles);
+    answer_differs(expected, answer) | vectors::profiles_differ(&profiles, &[], numbers)
 }
 
 fn main(rt: HostRuntime) -> io::Result<()> {
