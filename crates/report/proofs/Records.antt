@@ -39,20 +39,21 @@ pub longest_fit : {output first second : List ℕ} → length output ≡ 4 * mos
     Room most_cycle (profiles output first second)
 longest_fit o f s = record { output = omega (arith, o); first = omega (arith, f); second = omega (arith, s) }
 
-module _ (l : List ℕ) {p p' : Profiles} {r : Result Working Unworked} (room : Room most_cycle p) (works : Works l p r p') {cycle : ℕ} (es : cycle ≡ word2 l cycle_at) where
-  -- what is printed of the call is printed of the record
-  worked_alone : (form : Form) {number : ℕ} → number ≡ word4 l 0 → {t t' : Writer} →
-      Wrote t (text_in form number cycle (called r p')) t' → Wrote t (segment_text form l) t'
-  unfolding segment_text segment_of
-  worked_alone form {number} en v =
-      let same : text_in form number cycle (called r p') ≡ text_in form (word4 l 0) (segment_of l).cycle (call_of l longest) =
-      rw (en, es, works.is) (same_text form (word4 l 0) l p longest room longest_room) in
-      rw same at v
+module _ (l : List ℕ) {p p' : Profiles} {r : Result Working Unworked} (works : Works l p r p') {cycle : ℕ} (es : cycle ≡ word2 l cycle_at) where
+  module _ (room : Room most_cycle p) where
+    -- what is printed of the call is printed of the record
+    worked_alone : (form : Form) {number : ℕ} → number ≡ word4 l 0 → {t t' : Writer} →
+        Wrote t (text_in form number cycle (called r p')) t' → Wrote t (segment_text form l) t'
+    unfolding segment_text segment_of
+    worked_alone form {number} en v =
+        let same : text_in form number cycle (called r p') ≡ text_in form (word4 l 0) (segment_of l).cycle (call_of l longest) =
+        rw (en, es, works.is) (same_text form (word4 l 0) l p longest room longest_room) in
+        rw same at v
 
-  -- by the form that was matched
-  pub worked_in : {form : Form} (f : Form) → form ≡ f → {number : ℕ} → number ≡ word4 l 0 → {t t' : Writer} →
-      Wrote t (text_in f number cycle (called r p')) t' → Wrote t (segment_text form l) t'
-  worked_in f e en v = rw e (worked_alone f en v)
+    -- by the form that was matched
+    pub worked_in : {form : Form} (f : Form) → form ≡ f → {number : ℕ} → number ≡ word4 l 0 → {t t' : Writer} →
+        Wrote t (text_in f number cycle (called r p')) t' → Wrote t (segment_text form l) t'
+    worked_in f e en v = rw e (worked_alone f en v)
 
   -- and where it has worked, the output holds its through run
   pub run_stands : RunStands cycle r p'.output

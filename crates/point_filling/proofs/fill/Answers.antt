@@ -11,4 +11,7 @@ returns-then-points-eq0 c =
     rw (none_given c.args.points c.if-points-eq0.true) (record { out_after = sym (no_runs _ _); value = sym (no_counts _) })
 
 pub fill_each-requires : goal.fill_each-requires
-fill_each-requires c = rw (← c.accepted.view_is) (discharging _ _ (c.fill_profiles.auto.profile ∙ length-take-le _ _ (omega (arith, c.accepted.invariant.cycle))) (rw (← c.accepted.view_is) at c.requires) _ (rw (← c.accepted.view_is) at c.fill_profiles.ensures))
+fill_each-requires c =
+    let long = c.fill_profiles.auto.profile ∙ length-take-le _ _ (omega (arith, c.accepted.invariant.cycle)) in
+    rw (← c.accepted.view_is)
+    (discharging _ _ long (rw (← c.accepted.view_is) at c.requires) _ (rw (← c.accepted.view_is) at c.fill_profiles.ensures))

@@ -18,4 +18,5 @@ slice_bounds-access-end c = omega (arith, output_long (rw (← c.accepted.view_i
 pub returns : goal.returns
 returns c =
     rw (← c.accepted.view_is)
-    (worked_is (rw (← c.accepted.view_is) at c.requires) c.arrival_time.ensures c.figures.ensures c.figures-2.ensures c.figures-3.ensures c.total.ensures c.blocked_steps.ensures)
+    (worked_is (rw (← c.accepted.view_is) at c.requires) c.arrival_time.ensures c.figures.ensures c.figures-2.ensures c.figures-3.ensures
+    c.total.ensures c.blocked_steps.ensures)
