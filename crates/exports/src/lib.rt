@@ -227,6 +227,7 @@ pub extern "C" fn segment_work_points(
     ensures { SegmentPointWorks bytes.now points (lent output.old first.old second.old) passing.old
         result (lent output.new first.new second.new) passing.new }
 {
+    // The point profiles pass beside the struct: a working without points has none.
     let mut profiles = LentProfiles {
         output,
         first,
