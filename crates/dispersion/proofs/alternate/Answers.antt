@@ -1,5 +1,5 @@
 use Rattle.std.proofs.Common.{arith}
-use Rattle.dispersion.proofs.Alternating.{alternate_start, turn, alternate_done}
+use Rattle.dispersion.proofs.Alternating.{alternate_start, turn}
 use Rattle.dispersion.proofs.alternate.Goals as goal
 
 pub loop-k-init : goal.loop-k-init
@@ -8,9 +8,3 @@ loop-k-init c = alternate_start _ _ _ _ _
 pub loop-k-preserved : goal.loop-k-preserved
 loop-k-preserved c =
     turn c.loop-k.invariant (omega arith) _ _ _ _ c.work_cycle-next.ensures c.cycles_needed-needed.ensures c.work_cycle-next.auto.first c.work_cycle-next.auto.second
-
-pub returns-then-k-needed : goal.returns-then-k-needed
-returns-then-k-needed c = alternate_done c.loop-k.invariant (omega arith)
-
-pub returns : goal.returns
-returns c = alternate_done c.loop-k.invariant (omega arith)

@@ -2,11 +2,8 @@
 use Rattle.std.proofs.Common.{rules}
 use Rattle.std.proofs.Math.Nat.{sub-zero}
 use Rattle.points.specs.Points.{given}
-use Rattle.point_filling.proofs.Filling.{filling_start, filling_fits, filling_turn, filling_runs, filling_counts, given_few, given_room}
+use Rattle.point_filling.proofs.Filling.{filling_fits, filling_turn, filling_runs, filling_counts, given_room}
 use Rattle.point_filling.proofs.fill_each.Goals as goal
-
-pub loop-i-init : goal.loop-i-init
-loop-i-init c = filling_start _ _ _ (given_few c.requires.fill (search rules))
 
 pub fill_point-requires : goal.fill_point-requires
 unfolding given

@@ -1,11 +1,8 @@
 -- The record lies in the archive; it has the number, or the next ones may.
 use Rattle.std.proofs.Common.{arith}
 use Rattle.archive_open.specs.Walking.{walk_fits}
-use Rattle.archive_open.proofs.Seeking.{seek_start, seek_found, seek_on, seek_none}
+use Rattle.archive_open.proofs.Seeking.{seek_found, seek_on, seek_none}
 use Rattle.archive_open.proofs.search.seek.Goals as goal
-
-pub loop-init : goal.loop-init
-loop-init c = seek_start c.requires.1
 
 pub word4_at-requires : goal.word4_at-requires
 word4_at-requires c = omega (arith, c.requires.0, walk_fits c.loop.invariant.walk (omega arith))

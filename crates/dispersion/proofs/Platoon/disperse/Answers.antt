@@ -1,8 +1,5 @@
-use Rattle.dispersion.proofs.Laws.{disperse_start, disperse_turn, disperse_done}
+use Rattle.dispersion.proofs.Laws.{disperse_turn, disperse_done}
 use Rattle.dispersion.proofs.Platoon.disperse.Goals as goal
-
-pub loop-i-init : goal.loop-i-init
-loop-i-init c = disperse_start _ _ _ _ c.args.self.carried
 
 pub loop-i-preserved : goal.loop-i-preserved
 loop-i-preserved c = disperse_turn c.loop-i.invariant c.requires.discharge_in_bounds c.loop-i-test.true c.step-state.result c.step-state.ensures

@@ -1,11 +1,8 @@
 use Rattle.std.proofs.Common.{arith, rules, sym, ◌∙◌}
 use Rattle.exit_figures.specs.Laws.{green_flow_sum}
-use Rattle.exit_figures.proofs.Sums.{tally_start, green_turn, tally_done}
+use Rattle.exit_figures.proofs.Sums.{green_turn, tally_done}
 use Rattle.exit_figures.proofs.Run.green_flow.Goals as goal
 use Rattle.exit_figures.proofs.Run.green_flow.Goals.{then-in_green, else-in_green}
-
-pub loop-k-init : goal.loop-k-init
-loop-k-init c = tally_start _ _
 
 pub loop-k-preserved : goal.loop-k-preserved
 loop-k-preserved c =

@@ -1,11 +1,8 @@
 -- The record and its title lie in the archive, so the loop takes a turn of the text; at the end none is left.
 use Rattle.std.proofs.Common.{arith}
 use Rattle.archive_open.specs.Walking.{walk_fits}
-use Rattle.report.proofs.Records.{report_start, report_turn, report_done}
+use Rattle.report.proofs.Records.{report_turn, report_done}
 use Rattle.report.proofs.archive.records_text.Goals as goal
-
-pub loop-init : goal.loop-init
-loop-init c = report_start _ c.requires _
 
 pub overflow_add-bytes : goal.overflow_add-bytes
 overflow_add-bytes c = omega (arith, walk_fits c.loop.invariant.walk (omega (arith, c.loop-test.true)))
