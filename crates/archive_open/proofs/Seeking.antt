@@ -1,7 +1,6 @@
 -- The loop that seeks a number among the records: the records left hold it where all of them do.
-use Rattle.std.specs.Prelude.{ℕ, suc, ◌-◌, ◌≤◌, ◌<◌, ◌≡◌, refl, List, length, Ok, Err}
+use Rattle.std.specs.Prelude.{ℕ, suc, ◌-◌, ◌≤◌, ◌<◌, ◌≡◌, List, length, Ok, Err}
 use Rattle.std.proofs.Common.{arith, sym, ◌∙◌, eq-eqb, ne_eqb}
-use Rattle.std.proofs.Math.Nat.{sub-zero}
 use Rattle.refusal.specs.declared.Refusal.TheVariants.{Record}
 use Rattle.octets.specs.Octets.{word4}
 use Rattle.archive_format.specs.Archive.{find_in, record_number, next_at, filed_at, filed_from}
@@ -11,9 +10,6 @@ use Rattle.archive_open.specs.Walking.{Walk, walk_fits, walk_on}
 pub record Seeking (size : ℕ) (l : List ℕ) (count number left place : ℕ) : Type 0 where
   pub walk : Walk size l left place
   pub same : find_in size 0 (filed_from size count l 0) number ≡ find_in size place (filed_from size left l place) number
-
-pub seek_start : {size : ℕ} {l : List ℕ} {count number : ℕ} → Walk size l count 0 → Seeking size l count number (count - 0) 0
-seek_start w = rw sub-zero (record { walk = w; same = refl })
 
 module _ {size : ℕ} {l : List ℕ} {count number left place : ℕ} (w : Seeking size l count number left place) where
   module _ {n : ℕ} (h4 : 4 ≤ size) (en : n ≡ word4 l place) where

@@ -64,8 +64,3 @@ module _ {running : ℕ} {q : List ℕ} {n : ℕ} {f₀ g₀ f g : List ℕ} {s 
         are = rw (add-one, ← r.are) e;
         enough = turn_needed.enough;
       }
-
--- at the end every cycle that needs working is worked
-pub alternate_done : {running : ℕ} {q : List ℕ} {n : ℕ} {f₀ g₀ f g : List ℕ} {s : PlatoonState} {needed k : ℕ}
-    → Alternating running q n f₀ g₀ f g s needed k → needed ≤ k → work s f g ≡ cycles_worked running q n f₀ g₀
-alternate_done {needed} {k} r h = let e : k ≡ needed = omega (arith, r.within) in (rw e at r.are) ∙ r.enough

@@ -4,7 +4,7 @@ use Rattle.std.proofs.Math.Numerals.{unary_clauses}
 use Rattle.std.proofs.Math.ListN.{length-map}
 use Rattle.std.proofs.Math.Nat.{sub-zero}
 use Rattle.std.proofs.Math.Seq.{sets, sets-eq}
-use Rattle.runs.specs.PerRun.{Worked, worked_start, part, part_length, worked_turn, worked_done}
+use Rattle.runs.specs.PerRun.{Worked, part, part_length, worked_turn, worked_done}
 use Rattle.segment.specs.declared.Segment.{Segment}
 use Rattle.ranges.specs.Ranges.{Ranges}
 use Rattle.points.specs.declared.Point.{Point}
@@ -25,14 +25,8 @@ module _ {s : Segment} {ps : Points} {out : List ℕ} (h : FillFits s ps out) (e
   given_length : length (take (ps.count - 0) ps.at) ≡ ps.count
   given_length = rw sub-zero (front_length ps.at ps.count (omega (arith, h.few)))
 
-  pub given_few : length (take (ps.count - 0) ps.at) ≤ most_points
-  given_few = omega (arith, given_length, h.few)
-
   pub given_room : length (take (ps.count - 0) ps.at) * s.cycle ≤ length out
   given_room = rw given_length (omega (arith, h.room))
-
-pub filling_start : (s : Segment) (ps : List Point) (out : List ℕ) → length ps ≤ most_points → Filling s ps out out (replicate most_points 0) 0
-filling_start s ps out few = record { few = few; runs = worked_start _ _ _ _ _; eight = refl; counts = refl }
 
 module _ {s : Segment} {ps : List Point} {out₀ out blocked : List ℕ} {i : ℕ} (r : Filling s ps out₀ out blocked i) where
   module _ (more : i < length ps) (d : Point) (room : length ps * s.cycle ≤ length out₀) where

@@ -1,7 +1,6 @@
 -- The text of one record, and of the records of an archive one after another.
 use Rattle.std.specs.Prelude.{ℕ, suc, ◌+◌, ◌-◌, ◌*◌, ◌≤◌, ◌<◌, ◌≡◌, List, length, take, drop, Result, Ok, Err}
 use Rattle.std.proofs.Common.{arith, ap, sym, ◌∙◌}
-use Rattle.std.proofs.Math.Nat.{sub-zero}
 use Rattle.limits.specs.Limits.{most_cycle}
 use Rattle.refusal.specs.declared.Refusal.{Refusal}
 use Rattle.refusal.specs.Refusal.{number}
@@ -9,7 +8,7 @@ use Rattle.octets.specs.Octets.{word2, word4}
 use Rattle.buffer.specs.declared.Writer.{Writer}
 use Rattle.buffer.specs.Buffer.{Wrote}
 use Rattle.buffer.specs.Pieces.{Appending}
-use Rattle.buffer.proofs.Pieces.{appending_start, appending_turn, appending_done}
+use Rattle.buffer.proofs.Pieces.{appending_turn, appending_done}
 use Rattle.segment.specs.declared.Segment.{Segment}
 use Rattle.segment.specs.Layout.{size, cycle_at}
 use Rattle.segment.specs.Segment.{segment_of}
@@ -75,9 +74,6 @@ module _ (l : List ℕ) {p p' : Profiles} {r : Result Working Unworked} (works :
 pub record Reporting (form : Form) (l : List ℕ) (count : ℕ) (t₀ t : Writer) (left place : ℕ) : Type 0 where
   pub walk : Walk size l left place
   pub puts : Appending t₀ (records_text form (filed_from size count l 0)) t (records_text form (filed_from size left l place))
-
-pub report_start : (form : Form) {l : List ℕ} {count : ℕ} → Walk size l count 0 → (t : Writer) → Reporting form l count t t (count - 0) 0
-report_start form w t = rw sub-zero (record { walk = w; puts = appending_start t _ })
 
 module _ {form : Form} {l : List ℕ} {count : ℕ} {t₀ t : Writer} {i place : ℕ} (r : Reporting form l count t₀ t (count - i) place) where
   pub report_turn : i < count → {next : ℕ} → next ≡ next_at size l place → {t' : Writer} →
