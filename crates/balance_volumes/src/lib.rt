@@ -7,8 +7,7 @@ ghost use Rattle.balance_volumes.specs.Volumes.{discharge_floats, exit_floats, p
 use balance_flows::{FlowTable, Flows};
 use movements::{Counts, Seeds};
 
-// A discharge and an exit volume are each made a float by a rule of its own, so each has its definition and its edit; what the code
-// shares is `map`.
+// Two public functions of one line each: a discharge and an exit volume have each a definition that one may change alone.
 #[tactic(auto, unfolding(crate::specs::Volumes::discharge_floats))]
 pub fn discharge_floats(o: Counts) -> Flows
     ensures { result ≡ discharge_floats o }

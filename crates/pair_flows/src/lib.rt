@@ -1,4 +1,4 @@
-// The sixteen pair flows in a struct, so that they stand beside an enum in an answer.
+// The sixteen pair flows in a struct, since they pass over the C interface as a field of an answer.
 #![tactic(auto)]
 
 ghost use Rattle.std.specs.Prelude.{◌≡◌};

@@ -6,6 +6,8 @@ ghost use Rattle.propagation.specs.Propagation.{Same, held};
 ghost use Rattle.propagation.specs.Steps.{Room};
 ghost use Rattle.working.specs.Working.{Works, accept_of, by_decision, called, decision_for, fits, worked_call};
 ghost use Rattle.working.specs.Decided.{Decided};
+ghost use Rattle.working_outcome.specs.Answer.{worked_of};
+ghost use Rattle.working_outcome.specs.Filled.{Filled};
 
 use balance_decision::{Decision, Unworked};
 use propagation::LentProfiles;
@@ -42,6 +44,15 @@ pub fn decide(accepted: Accepted) -> Result<Decision, Unworked>
     balance_decision::decide(metering::discharge_volumes(accepted), s.exits, s.seeds)
 }
 
+// The figures of profiles that were filled. Apart, since behind the reference by which they are filled the output cannot be lent whole.
+fn figures(accepted: Accepted, decision: Decision, profiles: &LentProfiles) -> Working
+    requires { Filled accepted decision.pairs.rows profiles.now.output.now }
+    ensures { result ≡ worked_of accepted decision }
+{
+    let output = &*profiles.output;
+    working_outcome::worked(accepted, decision, output)
+}
+
 // Fills the profiles of a record that is decided to work, and reads its figures from the output.
 pub fn fill(accepted: Accepted, decision: Decision, profiles: &mut LentProfiles) -> Working
     requires { Decided accepted decision (held profiles.old) }
@@ -50,7 +61,7 @@ pub fn fill(accepted: Accepted, decision: Decision, profiles: &mut LentProfiles)
 {
     let volumes = metering::discharge_volumes(accepted);
     propagation::fill(accepted, volumes, decision.pairs.into(), profiles);
-    working_outcome::worked(accepted, decision, profiles)
+    figures(accepted, decision, profiles)
 }
 
 // An accepted record: the volumes are decided before anything is written.

@@ -8,7 +8,6 @@ ghost use Rattle.working_outcome.specs.Filled.{Filled};
 use balance_decision::Decision;
 use exit_figures::{ExitFigures, Run};
 use pair_flows::PairFlows;
-use propagation::LentProfiles;
 use ranges::Accepted;
 
 // The last sum of differences, platoon arrival time in steps, rounds of balancing, the sixteen pair flows, the exits' figures
@@ -26,13 +25,12 @@ pub struct Working {
     pub blocked: u32,
 }
 
-// The figures of profiles that were filled with what was decided, read from the output.
-pub fn worked(accepted: Accepted, d: Decision, profiles: &LentProfiles) -> Working
-    requires { Filled accepted d.pairs.rows profiles.now.output.now }
+// The figures of an output that was filled with what was decided.
+pub fn worked(accepted: Accepted, d: Decision, output: &[u32]) -> Working
+    requires { Filled accepted d.pairs.rows output.now }
     ensures { result ≡ worked_of accepted d }
 {
     let s = accepted.segment;
-    let output = &*profiles.output;
     let one = s.cycle as usize;
     let two = one + one;
     let three = two + one;
