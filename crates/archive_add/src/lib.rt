@@ -7,6 +7,7 @@ ghost use Rattle.archive_add.specs.Adds.{Adds};
 
 use archive_format::{RECORD_LIMIT, SizedEdition, TITLE_LIMIT, first_edition};
 use archive_open::Archive;
+use archive_write::{NewRecord, Parts};
 use refusal::{Refusal, need};
 
 // A title that is not too long, of bytes from 32 to 126.
@@ -18,36 +19,29 @@ fn title_fits(title: &[u8]) -> bool
 
 // Every test stands before the first byte that is written.
 #[tactic(auto, unfolding(archive_format::specs::Archive::add_of, refusal::specs::Refusal::need))]
-fn add_in(
-    e: SizedEdition,
-    s: &[u8],
-    segment: &[u8],
-    title: &[u8],
-    out: &mut [u8],
-) -> Result<usize, Refusal>
-    ensures { Adds e.edition s.now segment.now title.now out.old result out.new }
+fn add_in(e: SizedEdition, bytes: &[u8], added: NewRecord, out: &mut [u8]) -> Result<usize, Refusal>
+    ensures { Adds e.edition bytes.now added.entry.bytes.now added.entry.title.now out.old result out.new }
 {
-    let archive = Archive::open(e, s)?;
-    need(Refusal::Record, segment.len() == e.edition.size)?;
-    need(Refusal::Title, title_fits(title))?;
-    let number = octets::word4_at(segment, segment::NUMBER_AT);
+    let archive = Archive::open(e, bytes)?;
+    need(Refusal::Record, added.bytes.len() == e.edition.size)?;
+    need(Refusal::Title, title_fits(added.title))?;
+    let number = octets::word4_at(added.bytes, segment::NUMBER_AT);
     need(Refusal::Order, archive.last < number)?;
-    let length = archive.trailer + e.edition.size + 1 + title.len() + 2 * archive.count + 8;
+    let length = archive.trailer + e.edition.size + 1 + added.title.len() + 2 * archive.count + 8;
     need(Refusal::BufferRoom, length <= out.len())?;
     need(Refusal::Full, archive.count < RECORD_LIMIT)?;
-    let n = archive_write::grow(
-        e.edition,
-        s,
-        archive.count,
-        archive.trailer,
-        segment,
-        title,
-        out,
-    );
+    let parts = Parts {
+        edition: e.edition,
+        bytes,
+        count: archive.count,
+        trailer: archive.trailer,
+    };
+    let n = archive_write::grow(parts, added, out);
     Ok(n)
 }
 
 // Writes the archive with one record more to the buffer and returns its length; a refusal writes nothing, and bytes beyond stay.
+// The record and its title one by one, as the C interface has them.
 pub fn add(
     archive: &[u8],
     segment: &[u8],
@@ -56,5 +50,9 @@ pub fn add(
 ) -> Result<usize, Refusal>
     ensures { Adds first_edition archive.now segment.now title.now buffer.old result buffer.new }
 {
-    add_in(first_edition(), archive, segment, title, buffer)
+    let added = NewRecord {
+        bytes: segment,
+        title,
+    };
+    add_in(first_edition(), archive, added, buffer)
 }

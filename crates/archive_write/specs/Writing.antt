@@ -4,6 +4,8 @@ use Rattle.std.proofs.Common.{arith, length-append}
 use Rattle.octets.specs.Octets.{bytes2, word2_bound}
 use Rattle.archive_format.specs.declared.Edition.{Edition}
 use Rattle.archive_format.specs.Archive.{record_limit}
+use Rattle.archive_write.specs.declared.NewRecord.{NewRecord}
+use Rattle.archive_write.specs.declared.Parts.{Parts}
 
 abbrev pub record_bytes : List ℕ → List ℕ → List ℕ
 record_bytes b t = b ++ (length t ∷ t)
@@ -26,3 +28,10 @@ pub record Fits (count t old segment title room : ℕ) : Type 0 where
   pub placed : t + segment + 1 + title < word2_bound
   pub held : t + 2 * count ≤ old
   pub enough : t + segment + 1 + title + 2 * count + 8 ≤ room
+
+-- the same two of an archive's parts and a new record, as the contracts name them
+abbrev pub grown_by : Parts → NewRecord → List ℕ
+grown_by p r = grown p.edition p.bytes.now p.count p.trailer r.bytes.now r.title.now
+
+abbrev pub FitsIn : Parts → NewRecord → ℕ → Type 0
+FitsIn p r room = Fits p.count p.trailer (length p.bytes.now) (length r.bytes.now) (length r.title.now) room

@@ -1,24 +1,40 @@
 // Writing an archive with one record more into a lent buffer, part by part.
-// A lower layer's function: `grow` asks of its caller that the bytes fit. It takes the parts of an archive one by one, since it knows
-// the format alone: `Archive`, one that was read, is the reader's.
+// A lower layer's function: `grow` asks of its caller that the bytes fit.
 #![tactic(auto)]
 
 ghost use Rattle.std.specs.Prelude.{◌≡◌, ◌<◌, length};
 ghost use Rattle.octets.specs.Octets.{bytes2, word2_bound};
 ghost use Rattle.buffer.specs.Buffer.{Wrote, WroteAt};
-ghost use Rattle.archive_write.specs.Writing.{record_bytes, end_bytes, grown, Fits};
+ghost use Rattle.archive_write.specs.Writing.{record_bytes, end_bytes, grown_by, FitsIn};
 
 use archive_format::Edition;
 use buffer::Writer;
 
+// An archive as the format has it: its bytes, how many records, its trailer's place. No `Archive`: that one was read, and is the
+// reader's, while writing asks only that the bytes fit.
+#[derive(Clone, Copy)]
+pub struct Parts<'a> {
+    pub edition: Edition,
+    pub bytes: &'a [u8],
+    pub count: usize,
+    pub trailer: usize,
+}
+
+// A record that is added, and its title.
+#[derive(Clone, Copy)]
+pub struct NewRecord<'a> {
+    pub bytes: &'a [u8],
+    pub title: &'a [u8],
+}
+
 // A record, its title's length and its title.
-fn put_record(out: &mut Writer, segment: &[u8], title: &[u8])
-    requires { length title.now < 256 }
-    ensures { Wrote out.old (record_bytes segment.now title.now) out.new }
+fn put_record(added: NewRecord, out: &mut Writer)
+    requires { length added.title.now < 256 }
+    ensures { Wrote out.old (record_bytes added.entry.bytes.now added.entry.title.now) out.new }
 {
-    out.put(segment);
-    out.put(&[title.len() as u8]);
-    out.put(title);
+    out.put(added.bytes);
+    out.put(&[added.title.len() as u8]);
+    out.put(added.title);
 }
 
 // A number in two bytes.
@@ -39,42 +55,30 @@ fn put_end(e: Edition, out: &mut Writer, count: usize, trailer: usize)
     out.put(&[e.first, e.second]);
 }
 
-// The parts: the old records, the new one, the old places, the new one's, the end.
-fn put_grown(
-    e: Edition,
-    s: &[u8],
-    count: usize,
-    t: usize,
-    segment: &[u8],
-    title: &[u8],
-    out: &mut Writer,
-)
-    requires { Fits count t (length s.now) (length segment.now) (length title.now) (length out.old.bytes.now) }
-    ensures { Wrote out.old (grown e s.now count t segment.now title.now) out.new }
+// One after another: the old records, the new one, the old places, the new one's, the end.
+fn put_grown(parts: Parts, added: NewRecord, out: &mut Writer)
+    requires { FitsIn parts added (length out.old.bytes.now) }
+    ensures { Wrote out.old (grown_by parts.entry added.entry) out.new }
 {
-    out.put(&s[..t]);
-    put_record(out, segment, title);
-    out.put(&s[t..t + 2 * count]);
-    put_word(out, t);
-    put_end(e, out, count + 1, t + segment.len() + 1 + title.len());
+    out.put(&parts.bytes[..parts.trailer]);
+    put_record(added, out);
+    out.put(&parts.bytes[parts.trailer..parts.trailer + 2 * parts.count]);
+    put_word(out, parts.trailer);
+    put_end(
+        parts.edition,
+        out,
+        parts.count + 1,
+        parts.trailer + added.bytes.len() + 1 + added.title.len(),
+    );
 }
 
-// Writes an archive that was read, with one record more, and hands back its length.
-// The archive's parts one by one: it asks only that the bytes fit, and an `Archive` would ask of its caller that it reads.
-pub fn grow(
-    e: Edition,
-    s: &[u8],
-    count: usize,
-    t: usize,
-    segment: &[u8],
-    title: &[u8],
-    out: &mut [u8],
-) -> usize
-    requires { Fits count t (length s.now) (length segment.now) (length title.now) (length out.old) }
-    ensures { WroteAt out.old 0 (grown e s.now count t segment.now title.now) out.new result }
+// Writes an archive with one record more, and hands back its length.
+pub fn grow(parts: Parts, added: NewRecord, out: &mut [u8]) -> usize
+    requires { FitsIn parts added (length out.old) }
+    ensures { WroteAt out.old 0 (grown_by parts.entry added.entry) out.new result }
 {
     // A literal: it shows the place 0 that the contract names, where a constructor hides it.
     let mut out = Writer { bytes: out, at: 0 };
-    put_grown(e, s, count, t, segment, title, &mut out);
+    put_grown(parts, added, &mut out);
     out.at
 }

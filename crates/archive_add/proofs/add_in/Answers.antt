@@ -9,21 +9,21 @@ pub returns-in_err-need : goal.returns-in_err-need
 unfolding need
 returns-in_err-need c =
     let h = held c.in_ok-archive.archive c.in_ok-archive.ensures in
-    let tests = add_tests c.args.segment.now c.args.title.now h (λ i. omega (arith, c.type_inv.s i)) (length c.args.out.now) in
+    let tests = add_tests c.args.added.bytes.now c.args.added.title.now h (λ i. omega (arith, c.type_inv.bytes i)) (length c.args.out.now) in
     refused_as c.in_err-need.field-0.0 (search rules) (search (rules, ladder, tests))
 
 pub returns-in_err-need-2 : goal.returns-in_err-need-2
 unfolding need
 returns-in_err-need-2 c =
     let h = held c.in_ok-archive.archive c.in_ok-archive.ensures in
-    let tests = add_tests c.args.segment.now c.args.title.now h (λ i. omega (arith, c.type_inv.s i)) (length c.args.out.now) in
+    let tests = add_tests c.args.added.bytes.now c.args.added.title.now h (λ i. omega (arith, c.type_inv.bytes i)) (length c.args.out.now) in
     refused_as c.in_err-need-2.field-0.0 (search rules) (search (rules, ladder, tests))
 
 pub returns-in_err-need-3 : goal.returns-in_err-need-3
 unfolding need
 returns-in_err-need-3 c =
     let h = held c.in_ok-archive.archive c.in_ok-archive.ensures in
-    let tests = add_tests c.args.segment.now c.args.title.now h (λ i. omega (arith, c.type_inv.s i)) (length c.args.out.now) in
+    let tests = add_tests c.args.added.bytes.now c.args.added.title.now h (λ i. omega (arith, c.type_inv.bytes i)) (length c.args.out.now) in
     refused_as c.in_err-need-3.field-0.0 (search rules) (search (rules, ladder, tests))
 
 -- the new length is no number that wraps
@@ -49,7 +49,7 @@ pub returns-in_err-need-4 : goal.returns-in_err-need-4
 unfolding need
 returns-in_err-need-4 c =
     let h = held c.in_ok-archive.archive c.in_ok-archive.ensures in
-    let tests = add_tests c.args.segment.now c.args.title.now h (λ i. omega (arith, c.type_inv.s i)) (length c.args.out.now) in
+    let tests = add_tests c.args.added.bytes.now c.args.added.title.now h (λ i. omega (arith, c.type_inv.bytes i)) (length c.args.out.now) in
     let record-holds = holds _ _ _ _ c.need.ensures c.in_ok-need.was in
     let title-holds = sym c.title_fits.ensures ∙ holds _ _ _ _ c.need-2.ensures c.in_ok-need-2.was in
     let order-holds = rw c.word4_at-number.ensures at (holds _ _ _ _ c.need-3.ensures c.in_ok-need-3.was) in
@@ -59,14 +59,14 @@ pub returns-in_err-need-5 : goal.returns-in_err-need-5
 unfolding need
 returns-in_err-need-5 c =
     let h = held c.in_ok-archive.archive c.in_ok-archive.ensures in
-    let tests = add_tests c.args.segment.now c.args.title.now h (λ i. omega (arith, c.type_inv.s i)) (length c.args.out.now) in
+    let tests = add_tests c.args.added.bytes.now c.args.added.title.now h (λ i. omega (arith, c.type_inv.bytes i)) (length c.args.out.now) in
     refused_as c.in_err-need-5.field-0.0 (search rules) (search (rules, ladder, tests))
 
 pub grow-n-requires : goal.grow-n-requires
 grow-n-requires c =
     let h = held c.in_ok-archive.archive c.in_ok-archive.ensures in
     let sized = eqb-true _ _ (holds _ _ _ _ c.need.ensures c.in_ok-need.was) in
-    let short = short_title c.args.title.now (sym c.title_fits.ensures ∙ holds _ _ _ _ c.need-2.ensures c.in_ok-need-2.was) in
+    let short = short_title c.args.added.title.now (sym c.title_fits.ensures ∙ holds _ _ _ _ c.need-2.ensures c.in_ok-need-2.was) in
     let room = leb-true _ _ (holds _ _ _ _ c.need-4.ensures c.in_ok-need-4.was) in
     let few = ltb-true _ _ (holds _ _ _ _ c.need-5.ensures c.in_ok-need-5.was) in
     record {
@@ -81,7 +81,7 @@ pub returns : goal.returns
 unfolding need
 returns c =
     let h = held c.in_ok-archive.archive c.in_ok-archive.ensures in
-    let tests = add_tests c.args.segment.now c.args.title.now h (λ i. omega (arith, c.type_inv.s i)) (length c.args.out.now) in
+    let tests = add_tests c.args.added.bytes.now c.args.added.title.now h (λ i. omega (arith, c.type_inv.bytes i)) (length c.args.out.now) in
     let sized = eqb-true _ _ (holds _ _ _ _ c.need.ensures c.in_ok-need.was) in
     let room = leb-true _ _ (holds _ _ _ _ c.need-4.ensures c.in_ok-need-4.was) in
-    add_done _ _ h (λ i. omega (arith, c.type_inv.s i)) c.args.out.now sized room (search (rules, ladder, tests)) c.grow-n.ensures
+    add_done _ _ h (λ i. omega (arith, c.type_inv.bytes i)) c.args.out.now sized room (search (rules, ladder, tests)) c.grow-n.ensures

@@ -8,10 +8,11 @@ use Rattle.archive_write.proofs.put_grown.Goals as goal
 pub returns : goal.returns
 unfolding grown
 returns c =
-    let a = c.args in
-    let next : a.t + length (record_bytes a.segment.now a.title.now) ≡ a.t + length a.segment.now + 1 + length a.title.now =
-    rw (record_length a.segment.now a.title.now) (omega arith) in
-    let cut : a.t + 2 * a.count - a.t ≡ 2 * a.count = omega arith in
+    let parts = c.args.parts in
+    let added = c.args.added in
+    let next : parts.trailer + length (record_bytes added.bytes.now added.title.now) ≡ parts.trailer + length added.bytes.now + 1 + length added.title.now =
+    rw (record_length added.bytes.now added.title.now) (omega arith) in
+    let cut : parts.trailer + 2 * parts.count - parts.trailer ≡ 2 * parts.count = omega arith in
     let old = rw cut at c.put-2.ensures in
     let whole = c.put.ensures then c.put_record.ensures then old then c.put_word.ensures then c.put_end.ensures in
     rw next (simp append_assoc (simp append_assoc at whole))
