@@ -5,5 +5,5 @@ use Rattle.working.proofs.fill.Goals as goal
 pub fill-requires : goal.fill-requires
 fill-requires c = fill_asks c.requires c.into.ensures c.discharge_volumes-volumes.ensures
 
-pub worked-requires : goal.figures-requires
+pub figures-requires : goal.figures-requires
 figures-requires c = filled c.requires c.into.ensures _ c.fill.ensures.filled
