@@ -1,4 +1,4 @@
--- How many cycles are needed after one more: the step that both loops over the cycles take. What so many cycles leave is a parameter.
+-- How many cycles are needed after one more. What so many cycles leave is a parameter.
 use Rattle.std.proofs.Common.{ℕ, ◌+◌, ◌≤◌, ◌<◌, arith, Bool, true, false, ◌&&◌, ◌≡◌, refl, ◌∙◌, ltb, ltb-true}
 use Rattle.dispersion.specs.declared.PlatoonState.{PlatoonState}
 use Rattle.dispersion.specs.Rest.{same_state, needed_when, needed_of}

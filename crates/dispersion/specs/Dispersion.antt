@@ -79,6 +79,14 @@ unfoldable pub cycles_worked : ℕ → List ℕ → ℕ → List ℕ → List �
 cycles_worked running q zero f g = work empty_state f g
 cycles_worked running q (suc k) f g = cycle_worked running q k (cycles_worked running q k f g)
 
+-- the same with so many profiles beside the first: one, the second, or none, where each cycle goes into the first
+abbrev pub turn_worked : ℕ → List ℕ → (others k : ℕ) → Work → Work
+turn_worked running q others k w = cond (eqb (k % (others + 1)) 0) (into_first running q w) (into_second running q w)
+
+unfoldable pub turns_worked : ℕ → List ℕ → (others cycles : ℕ) → List ℕ → List ℕ → Work
+turns_worked running q others zero f g = work empty_state f g
+turns_worked running q others (suc k) f g = turn_worked running q others k (turns_worked running q others k f g)
+
 -- the first profile holds the last of so many cycles where their number is odd
 abbrev pub first_holds : ℕ → Bool
 first_holds cycles = eqb (cycles % 2) 1

@@ -41,7 +41,7 @@ abbrev both_hold : ℕ → List ℕ → PlatoonState → (f g : List ℕ) → Wo
 both_hold running q s f g = work s (arrivals running q s ++ drop (length q) f) (arrivals running q s ++ drop (length q) g)
 
 module _ (running : ℕ) (q : List ℕ) (k : ℕ) (h : AtRest running q (end_of running q k)) where
-  rest_end : (j : ℕ) → end_of running q (k + j) ≡ end_of running q k
+  pub rest_end : (j : ℕ) → end_of running q (k + j) ≡ end_of running q k
   rest_end j = end_after running q k j ∙ (rest_again running q (end_of running q k) h j).0
 
   pub rest_reported : (j : ℕ) → reported running q (suc (k + j)) ≡ arrivals running q (end_of running q k)

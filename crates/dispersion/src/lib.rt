@@ -5,7 +5,7 @@
 ghost use Rattle.std.specs.Prelude.{◌≡◌, ◌≤◌, ◌<◌, length};
 ghost use Rattle.limits.specs.Limits.{most_running};
 ghost use Rattle.dispersion.specs.Dispersion.{divisor_of, arrival_time_of, step_of, state_after, cycle_written};
-ghost use Rattle.dispersion.specs.Dispersion.{held, work, cycle_worked, cycles_worked, first_holds, last_part};
+ghost use Rattle.dispersion.specs.Dispersion.{held, work, turn_worked, turns_worked, cycles_worked, first_holds, last_part};
 ghost use Rattle.dispersion.specs.Rest.{needed_of};
 
 // The numerator of the smoothing factor (N of the paper); the divisor stands under it.
@@ -74,19 +74,21 @@ impl Platoon {
         state
     }
 
-    // Cycle k, from 0, into the profile whose turn it is: the cycles alternate between the two that paper 01 lends.
+    // Cycle k, from 0, into the profile whose turn it is: the first, or one of so many others, of which there is the second or none.
     fn work_cycle(
         self,
         discharge: &[u32],
         first: &mut [u32],
         second: &mut [u32],
+        others: u32,
         k: u32,
     ) -> PlatoonState
-        requires discharge_in_bounds { (length discharge.now ≤ length first.old) × (length discharge.now ≤ length second.old) }
+        requires others_le_1 { others ≤ 1 }
+        requires discharge_in_bounds { (length discharge.now ≤ length first.old) × (0 < others → length discharge.now ≤ length second.old) }
         ensures { work result first.new second.new
-            ≡ cycle_worked self.running discharge.now k (work self.state first.old second.old) }
+            ≡ turn_worked self.running discharge.now others k (work self.state first.old second.old) }
     {
-        if k % 2 == 0 {
+        if k % (others + 1) == 0 {
             return self.disperse(discharge, first);
         }
         self.disperse(discharge, second)
@@ -112,10 +114,38 @@ fn cycles_needed(
     cycles
 }
 
-// So many cycles from an empty segment, level and carry running on: the first, third, .. into the
-// first profile, the second, fourth, .. into the second. It ends once the segment rests, since the
-// profiles then hold what all the cycles leave. They are lent apart, as paper 01 has them: `last_cycle` keeps a part of one,
-// which could not be lent from a struct of both.
+// So many cycles from an empty segment, level and carry running on, by turns into the first profile and the second; with no others
+// each goes into the first, and the second may be empty. It ends once the segment rests, since the profiles then hold what all the cycles leave.
+fn work_cycles(
+    running: u32,
+    discharge: &[u32],
+    first: &mut [u32],
+    second: &mut [u32],
+    others: u32,
+    cycles: u32,
+) -> PlatoonState
+    requires running_le_most_running { running ≤ most_running }
+    requires others_le_1 { others ≤ 1 }
+    requires discharge_in_bounds { (length discharge.now ≤ length first.old) × (0 < others → length discharge.now ≤ length second.old) }
+    ensures { work result first.new second.new
+        ≡ turns_worked running discharge.now others cycles first.old second.old }
+{
+    let mut state = PlatoonState { level: 0, carry: 0 };
+    let mut needed = cycles;
+    for k in 0..cycles {
+        if k == needed {
+            return state;
+        }
+        let platoon = Platoon { running, state };
+        let next = platoon.work_cycle(discharge, first, second, others, k);
+        needed = cycles_needed(k + 1, others, needed, state, next);
+        state = next;
+    }
+    state
+}
+
+// So many cycles from an empty segment: the first, third, .. into the first profile, the second, fourth, .. into the second.
+// They are lent apart, as paper 01 has them: `last_cycle` keeps a part of one, which could not be lent from a struct of both.
 pub fn alternate(
     running: u32,
     discharge: &[u32],
@@ -128,39 +158,17 @@ pub fn alternate(
     ensures { work result first.new second.new
         ≡ cycles_worked running discharge.now cycles first.old second.old }
 {
-    let mut state = PlatoonState { level: 0, carry: 0 };
-    let mut needed = cycles;
-    for k in 0..cycles {
-        if k == needed {
-            return state;
-        }
-        let platoon = Platoon { running, state };
-        let next = platoon.work_cycle(discharge, first, second, k);
-        needed = cycles_needed(k + 1, 1, needed, state, next);
-        state = next;
-    }
-    state
+    work_cycles(running, discharge, first, second, 1, cycles)
 }
 
-// The last of so many cycles from an empty segment, each over the one before it in one profile. It ends once
-// the segment rests.
+// The last of so many cycles from an empty segment, each over the one before it in one profile, with no other beside it.
 pub fn disperse_last(running: u32, discharge: &[u32], profile: &mut [u32], cycles: u32)
     requires running_le_most_running { running ≤ most_running }
     requires discharge_in_bounds { length discharge.now ≤ length profile.old }
     requires cycles_nonzero { 0 < cycles }
     ensures { profile.new ≡ held running discharge.now cycles profile.old }
 {
-    let mut state = PlatoonState { level: 0, carry: 0 };
-    let mut needed = cycles;
-    for k in 0..cycles {
-        if k == needed {
-            return;
-        }
-        let platoon = Platoon { running, state };
-        let next = platoon.disperse(discharge, profile);
-        needed = cycles_needed(k + 1, 0, needed, state, next);
-        state = next;
-    }
+    work_cycles(running, discharge, profile, &mut [], 0, cycles);
 }
 
 // Whether the first profile holds the last of so many cycles; otherwise the second does.

@@ -1,10 +1,6 @@
-use Rattle.std.proofs.Common.{arith}
-use Rattle.dispersion.proofs.Alternating.{alternate_start, turn}
+use Rattle.std.proofs.Common.{◌∙◌}
+use Rattle.dispersion.proofs.Turns.{two_left}
 use Rattle.dispersion.proofs.alternate.Goals as goal
 
-pub loop-k-init : goal.loop-k-init
-loop-k-init c = alternate_start _ _ _ _ _
-
-pub loop-k-preserved : goal.loop-k-preserved
-loop-k-preserved c =
-    turn c.loop-k.invariant (omega arith) _ _ _ _ c.work_cycle-next.ensures c.cycles_needed-needed.ensures c.work_cycle-next.auto.first c.work_cycle-next.auto.second
+pub returns : goal.returns
+returns c = c.work_cycles.ensures ∙ two_left _ _ _ _ _
