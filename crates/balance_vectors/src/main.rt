@@ -89,12 +89,11 @@ fn answer_differs(s: &[u8; 260], o: Counts, exits: Counts, seeds: Seeds) -> bool
 
 // A body of another length differs, and so does a discharge out of range.
 fn case_differs(body: &[u8]) -> bool {
-    let Some(s) = body.as_array() else {
-        return true;
-    };
-    let o = counts_at(s, 0);
-    o.map(|o| limits::ENTRY_LIMIT < o).any()
-        || answer_differs(s, o, counts_at(s, 16), seeds_at(s, 32))
+    body.as_array().is_none_or(|s| {
+        let o = counts_at(s, 0);
+        o.map(|o| limits::ENTRY_LIMIT < o).any()
+            || answer_differs(s, o, counts_at(s, 16), seeds_at(s, 32))
+    })
 }
 
 fn main(rt: HostRuntime) -> io::Result<()> {
