@@ -13,12 +13,13 @@ use movements::{Counts, PerMovement, Seeds};
 use std::io;
 use std::num::f64_to_bits_with_nan;
 
-// The outcome of a case in the file.
-const UNSETTLED: u32 = 0;
-
-const SETTLED: u32 = 1;
-
-const NOT_RUN: u32 = 2;
+// The outcome of a case, with its number in the file.
+#[derive(Clone, Copy)]
+enum Outcome {
+    Unsettled = 0,
+    Settled = 1,
+    NotRun = 2,
+}
 
 fn counts_at(s: &[u8; 260], at: usize) -> Counts
     requires { at + 16 ≤ 260 }
@@ -32,12 +33,18 @@ fn seeds_at(s: &[u8; 260], at: usize) -> Seeds
     Seeds::read(at, 4, |at| Counts::read(at, 1, |at| octets::byte_at(s, at)))
 }
 
-// A settling as it was told: its outcome's number, rounds, last sum and cells, which are compared by their bits.
-fn settling_differs(s: &[u8; 260], outcome: u32, rounds: u32, sum: f64, cells: FlowTable) -> bool {
+// A settling as it was told: its outcome, rounds, last sum and cells, which are compared by their bits.
+fn settling_differs(
+    s: &[u8; 260],
+    outcome: Outcome,
+    rounds: u32,
+    sum: f64,
+    cells: FlowTable,
+) -> bool {
     let expected = PerMovement::read(68, 32, |at| {
         PerMovement::read(at, 8, |at| octets::word8_at(s, at))
     });
-    (octets::word4_at(s, 52) != outcome)
+    (octets::word4_at(s, 52) != outcome as u32)
         | (octets::word4_at(s, 56) != rounds)
         | vectors::float_differs(s, 60, sum)
         | (cells.map(|row| row.map(|x| f64_to_bits_with_nan(x))) != expected)
@@ -45,8 +52,8 @@ fn settling_differs(s: &[u8; 260], outcome: u32, rounds: u32, sum: f64, cells: F
 
 fn balance_differs(s: &[u8; 260], x: Balance) -> bool {
     match x.settling {
-        Settling::Settled(sum) => settling_differs(s, SETTLED, x.rounds, sum, x.cells),
-        Settling::Unsettled(sum) => settling_differs(s, UNSETTLED, x.rounds, sum, x.cells),
+        Settling::Settled(sum) => settling_differs(s, Outcome::Settled, x.rounds, sum, x.cells),
+        Settling::Unsettled(sum) => settling_differs(s, Outcome::Unsettled, x.rounds, sum, x.cells),
     }
 }
 
@@ -54,7 +61,7 @@ fn unworked_differs(s: &[u8; 260], u: Unworked, b: Balance) -> bool {
     match u {
         Unworked::Unsettled(sum) => balance_differs(s, b) | vectors::float_differs(s, 60, sum),
         // No rounds, no sum, no cells.
-        Unworked::Refused(_) => settling_differs(s, NOT_RUN, 0, 0.0, FlowTable::default()),
+        Unworked::Refused(_) => settling_differs(s, Outcome::NotRun, 0, 0.0, FlowTable::default()),
     }
 }
 
@@ -82,15 +89,11 @@ fn answer_differs(s: &[u8; 260], o: Counts, exits: Counts, seeds: Seeds) -> bool
 
 // A body of another length differs, and so does a discharge out of range.
 fn case_differs(body: &[u8]) -> bool {
-    let Some(s) = body.as_array() else {
-        return true;
-    };
-    let o = counts_at(s, 0);
-    let limit = limits::ENTRY_LIMIT;
-    if limit < o.left || limit < o.through || limit < o.right || limit < o.access {
-        return true;
-    }
-    answer_differs(s, o, counts_at(s, 16), seeds_at(s, 32))
+    body.as_array().is_none_or(|s| {
+        let o = counts_at(s, 0);
+        o.map(|o| limits::ENTRY_LIMIT < o).any()
+            || answer_differs(s, o, counts_at(s, 16), seeds_at(s, 32))
+    })
 }
 
 fn main(rt: HostRuntime) -> io::Result<()> {

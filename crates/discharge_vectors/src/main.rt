@@ -4,7 +4,7 @@
 use movements::Signalised;
 use refusal::Refusal;
 use std::io;
-use vectors::ROOM;
+use vectors::Lengths;
 
 fn answer_differs(expected: &[u8; 16], answer: Result<Signalised<u32>, Refusal>) -> bool {
     let number = octets::word4_at(expected, 0);
@@ -19,23 +19,23 @@ fn answer_differs(expected: &[u8; 16], answer: Result<Signalised<u32>, Refusal>)
     }
 }
 
-// After the record stand the profile's length, what must be answered, and the profile after the call. A longer one than the longest differs.
+// Whether a case differs. After the record stand the profile's length, what must be answered, and the profile after the call, which is lent
+// as the output alone.
+fn compared(record: &[u8], rest: &[u8]) -> Option<bool> {
+    let (length, rest) = rest.split_first_chunk()?;
+    let (expected, numbers) = rest.split_first_chunk::<16>()?;
+    let lengths = Lengths {
+        output: u32::from(u16::from_le_bytes(*length)),
+        ..Lengths::default()
+    };
+    Some(vectors::lent_differ(lengths, numbers, |profiles, _| {
+        answer_differs(expected, discharge::discharge(record, profiles.output))
+    }))
+}
+
+// One that ends before all of that differs.
 fn case_differs(record: &[u8], rest: &[u8]) -> bool {
-    let Some((length, rest)) = rest.split_first_chunk::<2>() else {
-        return true;
-    };
-    let Some((expected, numbers)) = rest.split_first_chunk::<16>() else {
-        return true;
-    };
-    let m = usize::from(u16::from_le_bytes(*length));
-    if ROOM < m || numbers.len() != 4 * m {
-        return true;
-    }
-    let mut profile = [0u32; ROOM];
-    let profile = &mut profile[..m];
-    vectors::fill_pattern(profile, vectors::OUTPUT_FROM);
-    let answer = discharge::discharge(record, profile);
-    answer_differs(expected, answer) | vectors::numbers_differ(numbers, 0, profile)
+    compared(record, rest) != Some(false)
 }
 
 fn main(rt: HostRuntime) -> io::Result<()> {

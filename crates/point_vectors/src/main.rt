@@ -6,9 +6,8 @@ ghost use Rattle.std.specs.Prelude.{◌+◌, ◌≤◌, length};
 use balance_decision::Unworked;
 use point_working::PointWorking;
 use points::{Point, Points};
-use propagation::LentProfiles;
 use std::io;
-use vectors::ROOM;
+use vectors::Lengths;
 
 fn point_at(s: &[u8], at: usize) -> Point
     requires { at + 8 ≤ length s.now }
@@ -42,48 +41,29 @@ fn answer_differs(expected: &[u8; 36], answer: Result<PointWorking, Unworked>) -
     }
 }
 
-// One call, on profiles of the lengths of a case; one longer than the longest differs. Their numbers after the call come last.
-fn call_differs(
-    record: &[u8],
-    points: Points,
-    lengths: &[u8; 16],
-    expected: &[u8; 36],
-    numbers: &[u8],
-) -> bool {
-    let o = octets::word4_at(lengths, 0) as usize;
-    let q = octets::word4_at(lengths, 4) as usize;
-    let f = octets::word4_at(lengths, 8) as usize;
-    let s = octets::word4_at(lengths, 12) as usize;
-    if ROOM < o || ROOM < q || ROOM < f || ROOM < s || numbers.len() != 4 * (o + q + f + s) {
-        return true;
-    }
-    let mut output = [0u32; ROOM];
-    let mut passing = [0u32; ROOM];
-    let mut first = [0u32; ROOM];
-    let mut second = [0u32; ROOM];
-    let mut profiles = LentProfiles {
-        output: &mut output[..o],
-        first: &mut first[..f],
-        second: &mut second[..s],
+// Whether a case differs. After the record stand the points, the profiles' lengths, what must be answered, and the profiles after the call.
+fn compared(record: &[u8], rest: &[u8]) -> Option<bool> {
+    let (points, rest) = rest.split_first_chunk()?;
+    let (lengths, rest) = rest.split_first_chunk::<16>()?;
+    let (expected, numbers) = rest.split_first_chunk()?;
+    let points = points_at(points);
+    let lengths = Lengths {
+        output: octets::word4_at(lengths, 0),
+        passing: octets::word4_at(lengths, 4),
+        first: octets::word4_at(lengths, 8),
+        second: octets::word4_at(lengths, 12),
     };
-    let passing = &mut passing[..q];
-    vectors::fill_profiles(&mut profiles, passing);
-    let answer = point_working::work_points(record, points, &mut profiles, passing);
-    answer_differs(expected, answer) | vectors::profiles_differ(&profiles, passing, numbers)
+    Some(vectors::lent_differ(lengths, numbers, |profiles, passing| {
+        answer_differs(
+            expected,
+            point_working::work_points(record, points, profiles, passing),
+        )
+    }))
 }
 
-// After the record stand the points, the profiles' lengths, what must be answered, and the profiles.
+// One that ends before all of that differs.
 fn case_differs(record: &[u8], rest: &[u8]) -> bool {
-    let Some((points, rest)) = rest.split_first_chunk() else {
-        return true;
-    };
-    let Some((lengths, rest)) = rest.split_first_chunk() else {
-        return true;
-    };
-    let Some((expected, numbers)) = rest.split_first_chunk() else {
-        return true;
-    };
-    call_differs(record, points_at(points), lengths, expected, numbers)
+    compared(record, rest) != Some(false)
 }
 
 fn main(rt: HostRuntime) -> io::Result<()> {

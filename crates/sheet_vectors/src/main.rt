@@ -3,9 +3,8 @@
 #![tactic(auto)]
 
 use balance_decision::Unworked;
-use propagation::LentProfiles;
 use std::io;
-use vectors::ROOM;
+use vectors::Lengths;
 use working_outcome::Working;
 
 // The longest page buffer that a case lends.
@@ -20,37 +19,30 @@ fn answer_differs(expected: &[u8; 12], answer: Result<Working, Unworked>) -> boo
     (octets::word4_at(expected, 0) != number) | vectors::float_differs(expected, 4, sum)
 }
 
-// After the record stand the lengths, what must be answered, the page buffer and the profiles after the call. A longer one than the longest
-// differs.
-fn case_differs(record: &[u8], rest: &[u8]) -> bool {
-    let Some((lengths, rest)) = rest.split_first_chunk::<16>() else {
-        return true;
-    };
-    let Some((expected, rest)) = rest.split_first_chunk::<12>() else {
-        return true;
-    };
+// Whether a case differs. After the record stand the lengths, what must be answered, the page buffer and the profiles after the call.
+fn compared(record: &[u8], rest: &[u8]) -> Option<bool> {
+    let (lengths, rest) = rest.split_first_chunk::<16>()?;
+    let (expected, rest) = rest.split_first_chunk::<12>()?;
     let t = octets::word4_at(lengths, 0) as usize;
-    let o = octets::word4_at(lengths, 4) as usize;
-    let f = octets::word4_at(lengths, 8) as usize;
-    let s = octets::word4_at(lengths, 12) as usize;
-    if PAGE_ROOM < t || ROOM < o || ROOM < f || ROOM < s || rest.len() != t + 4 * (o + f + s) {
-        return true;
-    }
-    let mut page = [0u8; PAGE_ROOM];
-    let mut output = [0u32; ROOM];
-    let mut first = [0u32; ROOM];
-    let mut second = [0u32; ROOM];
-    let page = &mut page[..t];
-    let mut profiles = LentProfiles {
-        output: &mut output[..o],
-        first: &mut first[..f],
-        second: &mut second[..s],
+    let (expected_page, numbers) = rest.split_at_checked(t)?;
+    let lengths = Lengths {
+        output: octets::word4_at(lengths, 4),
+        first: octets::word4_at(lengths, 8),
+        second: octets::word4_at(lengths, 12),
+        ..Lengths::default()
     };
+    let mut space = [0u8; PAGE_ROOM];
+    let page = space.get_mut(..t)?;
     vectors::fill_bytes(page);
-    vectors::fill_profiles(&mut profiles, &mut []);
-    let answer = sheet::sheet(record, page, &mut profiles);
-    let differ = vectors::profiles_differ(&profiles, &[], &rest[t..]);
-    answer_differs(expected, answer) | (&*page != &rest[..t]) | differ
+    Some(vectors::lent_differ(lengths, numbers, |profiles, _| {
+        let answer = sheet::sheet(record, page, profiles);
+        answer_differs(expected, answer) | (&*page != expected_page)
+    }))
+}
+
+// One that ends before all of that differs, and so does a page buffer longer than the longest.
+fn case_differs(record: &[u8], rest: &[u8]) -> bool {
+    compared(record, rest) != Some(false)
 }
 
 fn main(rt: HostRuntime) -> io::Result<()> {

@@ -1,14 +1,17 @@
 -- What the test programs compare.
 use Rattle.std.specs.Prelude.{◌≡◌, ℕ, ◌≤◌, ◌+◌, ◌*◌, ◌%◌, Bool, false, ◌||◌, not, List, [], ◌∷◌, ◌++◌, eqb, ltb, Float, length, take, drop, Option}
+use Rattle.std.specs.Borrow.{MutBor}
 use Rattle.std.specs.List.{flat_map}
 use Rattle.std.specs.Io.KnownBytes.{Appends}
 use Rattle.std.specs.Float.{binary64}
 use Rattle.std.specs.Float.Ieee.{to_bits}
 use Rattle.octets.specs.Octets.{word2, word4, word8}
 use Rattle.lists.specs.Lists.{tab}
-use Rattle.propagation.specs.Propagation.{Profiles}
+use Rattle.propagation.specs.Propagation.{Profiles, profiles, held}
+use Rattle.propagation.specs.declared.LentProfiles.{LentProfiles}
 use Rattle.text.specs.Text.{decimal, field}
 use Rattle.text.specs.Words.{bytes}
+use Rattle.vectors.specs.declared.Lengths.{Lengths}
 use Rattle.vectors.specs.declared.TheConstants.{ROOM, OUTPUT_FROM, PASSING_FROM, FIRST_FROM, SECOND_FROM}
 
 -- a body's record, as long as its first two bytes say, and what follows it
@@ -57,6 +60,14 @@ Adds old new = (more : List ℕ) × Appends old new more
 abbrev pub Told : Option (List ℕ) → Option (List ℕ) → Type 0
 Told old new = (lines : List ℕ) × (cases : ℕ) × (differing : ℕ) × (differing ≤ cases) × Appends old new (lines ++ closing_line cases differing)
 
+-- lengths of no more than a case lends, and as many numbers as they say, of four bytes each
+pub record AsLong (n : Lengths) (numbers : List ℕ) : Type 0 where
+  pub output : n.output ≤ ROOM
+  pub passing : n.passing ≤ ROOM
+  pub first : n.first ≤ ROOM
+  pub second : n.second ≤ ROOM
+  pub count : length numbers ≡ 4 * (n.output + n.passing + n.first + n.second)
+
 -- lent profiles that are no longer than a case lends them
 abbrev pub Lendable : Profiles → List ℕ → Type 0
 Lendable p q = (length p.output ≤ ROOM) × (length q ≤ ROOM) × (length p.first ≤ ROOM) × (length p.second ≤ ROOM)
@@ -75,3 +86,12 @@ profiles_differ l p q =
     let first = drop (4 * length q) passing in
     let second = drop (4 * length p.first) first in
     profile_differs l p.output || profile_differs passing q || profile_differs first p.first || profile_differs second p.second
+
+-- a call that is lent profiles of these lengths, each with its pattern, by what it may answer and leave: whether it differs, or a number does
+abbrev pub Compared : (MutBor LentProfiles → MutBor (List ℕ) → Bool → MutBor LentProfiles → MutBor (List ℕ) → Type 0) → Lengths → List ℕ → Bool → Type 0
+Compared Leaves n numbers differ =
+    (p : MutBor LentProfiles) × (q : MutBor (List ℕ)) × (answer : Bool) × (p' : MutBor LentProfiles) × (q' : MutBor (List ℕ))
+    × (held p.now ≡ profiles (pattern OUTPUT_FROM n.output) (pattern FIRST_FROM n.first) (pattern SECOND_FROM n.second))
+    × (q.now ≡ pattern PASSING_FROM n.passing)
+    × Leaves p q answer p' q'
+    × (differ ≡ (answer || profiles_differ numbers (held p'.now) q'.now))

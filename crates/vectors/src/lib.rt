@@ -1,12 +1,12 @@
 // Support of the test programs: cases of a vector file from standard input, and what is said of them. docs/VECTORS.md has the format.
 #![tactic(auto)]
 
-ghost use Rattle.std.specs.Prelude.{◌≡◌, ◌+◌, ◌-◌, ◌*◌, ◌≤◌, ◌<◌, ◌^◌, length, take, drop, IfOk, IfSome, OnOk, MatchOption};
+ghost use Rattle.std.specs.Prelude.{◌≡◌, false, ◌+◌, ◌-◌, ◌*◌, ◌≤◌, ◌<◌, ◌^◌, length, take, drop, IfOk, IfSome, OnOk, MatchOption};
 ghost use Rattle.std.specs.Io.KnownBytes.{Appends};
 ghost use Rattle.octets.specs.Octets.{word2, word4};
 ghost use Rattle.buffer.specs.Buffer.{WroteAt, next_place};
 ghost use Rattle.propagation.specs.Propagation.{Same, held};
-ghost use Rattle.vectors.specs.Vectors.{Adds, IsRecordAndRest, Lendable, Patterned, Told, byte_pattern, closing_line, float_differs};
+ghost use Rattle.vectors.specs.Vectors.{Adds, AsLong, Compared, IsRecordAndRest, Lendable, Patterned, Told, byte_pattern, closing_line, float_differs};
 ghost use Rattle.vectors.specs.Vectors.{pattern, profile_differs, profiles_differ, rows_differ, words_differ};
 
 use buffer::Writer;
@@ -211,6 +211,47 @@ pub fn profiles_differ(profiles: &LentProfiles, passing: &[u32], expected: &[u8]
         | profile_differs(points, passing)
         | profile_differs(first, profiles.first)
         | profile_differs(second, profiles.second)
+}
+
+// The lengths of the profiles that a case lends; one that it does not lend has the length 0.
+#[derive(Clone, Copy, Default)]
+pub struct Lengths {
+    pub output: u32,
+    pub passing: u32,
+    pub first: u32,
+    pub second: u32,
+}
+
+// Makes a call on profiles of these lengths that hold their patterns: whether it says that its answer differs, or their numbers after it
+// are not those expected, which stand one profile after another. A profile longer than the longest differs, and so does another count.
+pub fn lent_differ<F: FnOnce(&mut LentProfiles, &mut [u32]) -> bool>(
+    lengths: Lengths,
+    expected: &[u8],
+    differs: F,
+) -> bool
+    requires { F.IsAlwaysCallable differs }
+    ensures lendable { result ≡ false → AsLong lengths expected.now }
+    ensures compared { AsLong lengths expected.now → Compared (F.post differs) lengths expected.now result }
+{
+    let o = lengths.output as usize;
+    let q = lengths.passing as usize;
+    let f = lengths.first as usize;
+    let s = lengths.second as usize;
+    if ROOM < o || ROOM < q || ROOM < f || ROOM < s || expected.len() != 4 * (o + q + f + s) {
+        return true;
+    }
+    let mut output = [0u32; ROOM];
+    let mut passing = [0u32; ROOM];
+    let mut first = [0u32; ROOM];
+    let mut second = [0u32; ROOM];
+    let passing = &mut passing[..q];
+    let mut profiles = LentProfiles {
+        output: &mut output[..o],
+        first: &mut first[..f],
+        second: &mut second[..s],
+    };
+    fill_profiles(&mut profiles, passing);
+    differs(&mut profiles, passing) | profiles_differ(&profiles, passing, expected)
 }
 
 // Whether some of the sixteen pair flows differs, in rows from a place on: one line over the numbers, with a definition of its own.

@@ -5,9 +5,8 @@ ghost use Rattle.std.specs.Prelude.{◌+◌, ◌≤◌};
 
 use balance_decision::Unworked;
 use exit_figures::ExitFigures;
-use propagation::LentProfiles;
 use std::io;
-use vectors::ROOM;
+use vectors::Lengths;
 use working_outcome::Working;
 
 fn figures_differ(expected: &[u8; 156], at: usize, exit: ExitFigures) -> bool
@@ -44,31 +43,24 @@ fn answer_differs(expected: &[u8; 156], answer: Result<Working, Unworked>) -> bo
     }
 }
 
-// After the record stand the profiles' lengths, what must be answered, and the profiles after the call. A longer one than the longest differs.
+// Whether a case differs. After the record stand the profiles' lengths, what must be answered, and the profiles after the call.
+fn compared(record: &[u8], rest: &[u8]) -> Option<bool> {
+    let (lengths, rest) = rest.split_first_chunk::<12>()?;
+    let (expected, numbers) = rest.split_first_chunk::<156>()?;
+    let lengths = Lengths {
+        output: octets::word4_at(lengths, 0),
+        first: octets::word4_at(lengths, 4),
+        second: octets::word4_at(lengths, 8),
+        ..Lengths::default()
+    };
+    Some(vectors::lent_differ(lengths, numbers, |profiles, _| {
+        answer_differs(expected, working::work(record, profiles))
+    }))
+}
+
+// One that ends before all of that differs.
 fn case_differs(record: &[u8], rest: &[u8]) -> bool {
-    let Some((lengths, rest)) = rest.split_first_chunk::<12>() else {
-        return true;
-    };
-    let Some((expected, numbers)) = rest.split_first_chunk::<156>() else {
-        return true;
-    };
-    let o = octets::word4_at(lengths, 0) as usize;
-    let f = octets::word4_at(lengths, 4) as usize;
-    let s = octets::word4_at(lengths, 8) as usize;
-    if ROOM < o || ROOM < f || ROOM < s || numbers.len() != 4 * (o + f + s) {
-        return true;
-    }
-    let mut output = [0u32; ROOM];
-    let mut first = [0u32; ROOM];
-    let mut second = [0u32; ROOM];
-    let mut profiles = LentProfiles {
-        output: &mut output[..o],
-        first: &mut first[..f],
-        second: &mut second[..s],
-    };
-    vectors::fill_profiles(&mut profiles, &mut []);
-    let answer = working::work(record, &mut profiles);
-    answer_differs(expected, answer) | vectors::profiles_differ(&profiles, &[], numbers)
+    compared(record, rest) != Some(false)
 }
 
 fn main(rt: HostRuntime) -> io::Result<()> {
