@@ -31,6 +31,7 @@ pub fn worked(accepted: Accepted, d: Decision, output: &[u32]) -> Working
     ensures { result ≡ worked_of accepted d }
 {
     let s = accepted.segment;
+    // Cut by place: chunks would come one by one as options, each with a case that cannot be.
     let one = s.cycle as usize;
     let two = one + one;
     let three = two + one;
