@@ -4,8 +4,8 @@
 
 ghost use Rattle.std.specs.Prelude.{◌≡◌, ◌≤◌, ◌<◌, length};
 ghost use Rattle.limits.specs.Limits.{most_running};
-ghost use Rattle.dispersion.specs.Dispersion.{divisor_of, arrival_time_of, step_of, state_after, cycle_written};
-ghost use Rattle.dispersion.specs.Dispersion.{held, work, turn_worked, turns_worked, cycles_worked, first_holds, last_part};
+ghost use Rattle.dispersion.specs.Dispersion.{divisor_of, arrival_time_of, empty_state, step_of, state_after, cycle_written};
+ghost use Rattle.dispersion.specs.Dispersion.{held, work, others_of, turn_worked, turns_worked, cycles_worked, first_holds, last_part};
 ghost use Rattle.dispersion.specs.Rest.{needed_of};
 
 // The numerator of the smoothing factor (N of the paper); the divisor stands under it.
@@ -16,6 +16,29 @@ const SMOOTHING: u64 = 500000;
 pub struct PlatoonState {
     pub level: u32,
     pub carry: u32,
+}
+
+// A segment before its first cycle.
+const EMPTY: PlatoonState = PlatoonState { level: 0, carry: 0 };
+
+// The profiles that take cycles by turns: the first alone, or the first and the second.
+#[derive(Clone, Copy)]
+enum Turns {
+    One,
+    Two,
+}
+
+impl Turns {
+    // How many profiles take cycles beside the first.
+    fn others(self) -> u32
+        ensures value { result ≡ others_of self }
+        ensures others_le_1 { result ≤ 1 }
+    {
+        match self {
+            Turns::One => 0,
+            Turns::Two => 1,
+        }
+    }
 }
 
 // The divisor of the smoothing factor (D of the paper).
@@ -34,7 +57,7 @@ pub fn arrival_time(running: u32) -> u32
     ((862 * u64::from(running) + 435000) / 1000000) as u32
 }
 
-// A platoon on its way along a segment of that running time, in the state that its last step left.
+// A platoon on its way along a segment of that running time, in the state that its last step left, or that of an empty segment.
 #[derive(Clone, Copy)]
 struct Platoon {
     running: u32,
@@ -74,24 +97,52 @@ impl Platoon {
         state
     }
 
-    // Cycle k, from 0, into the profile whose turn it is: the first, or one of so many others, of which there is the second or none.
+    // Cycle k, from 0, into the profile whose turn it is.
     fn work_cycle(
         self,
         discharge: &[u32],
         first: &mut [u32],
         second: &mut [u32],
-        others: u32,
+        turns: Turns,
         k: u32,
     ) -> PlatoonState
-        requires others_le_1 { others ≤ 1 }
-        requires discharge_in_bounds { (length discharge.now ≤ length first.old) × (0 < others → length discharge.now ≤ length second.old) }
+        requires discharge_in_bounds { (length discharge.now ≤ length first.old) × (0 < others_of turns → length discharge.now ≤ length second.old) }
         ensures { work result first.new second.new
-            ≡ turn_worked self.running discharge.now others k (work self.state first.old second.old) }
+            ≡ turn_worked self.running discharge.now (others_of turns) k (work self.state first.old second.old) }
     {
-        if k % (others + 1) == 0 {
+        if k % (turns.others() + 1) == 0 {
             return self.disperse(discharge, first);
         }
         self.disperse(discharge, second)
+    }
+
+    // So many cycles from an empty segment, level and carry running on, by turns into the first profile and the second, or each into the
+    // first, where the second may be empty. It ends once the segment rests, since the profiles then hold what all the cycles leave.
+    fn work_cycles(
+        self,
+        discharge: &[u32],
+        first: &mut [u32],
+        second: &mut [u32],
+        turns: Turns,
+        cycles: u32,
+    ) -> PlatoonState
+        requires not_moved { self.state ≡ empty_state }
+        requires discharge_in_bounds { (length discharge.now ≤ length first.old) × (0 < others_of turns → length discharge.now ≤ length second.old) }
+        ensures { work result first.new second.new
+            ≡ turns_worked self.running discharge.now (others_of turns) cycles first.old second.old }
+    {
+        let Platoon { running, mut state } = self;
+        let mut needed = cycles;
+        for k in 0..cycles {
+            if k == needed {
+                return state;
+            }
+            let platoon = Platoon { running, state };
+            let next = platoon.work_cycle(discharge, first, second, turns, k);
+            needed = cycles_needed(k + 1, turns, needed, state, next);
+            state = next;
+        }
+        state
     }
 }
 
@@ -100,52 +151,22 @@ impl Platoon {
 #[tactic(auto, unfolding(crate::specs::Rest::needed_of, crate::specs::Rest::same_state))]
 fn cycles_needed(
     worked: u32,
-    others: u32,
+    turns: Turns,
     cycles: u32,
     before: PlatoonState,
     after: PlatoonState,
 ) -> u32
-    requires { others ≤ 1 }
-    ensures { result ≡ needed_of worked others cycles before after }
+    ensures { result ≡ needed_of worked (others_of turns) cycles before after }
 {
     if worked < cycles && before == after {
-        return worked + others;
+        return worked + turns.others();
     }
     cycles
 }
 
-// So many cycles from an empty segment, level and carry running on, by turns into the first profile and the second; with no others
-// each goes into the first, and the second may be empty. It ends once the segment rests, since the profiles then hold what all the cycles leave.
-fn work_cycles(
-    running: u32,
-    discharge: &[u32],
-    first: &mut [u32],
-    second: &mut [u32],
-    others: u32,
-    cycles: u32,
-) -> PlatoonState
-    requires running_le_most_running { running ≤ most_running }
-    requires others_le_1 { others ≤ 1 }
-    requires discharge_in_bounds { (length discharge.now ≤ length first.old) × (0 < others → length discharge.now ≤ length second.old) }
-    ensures { work result first.new second.new
-        ≡ turns_worked running discharge.now others cycles first.old second.old }
-{
-    let mut state = PlatoonState { level: 0, carry: 0 };
-    let mut needed = cycles;
-    for k in 0..cycles {
-        if k == needed {
-            return state;
-        }
-        let platoon = Platoon { running, state };
-        let next = platoon.work_cycle(discharge, first, second, others, k);
-        needed = cycles_needed(k + 1, others, needed, state, next);
-        state = next;
-    }
-    state
-}
-
 // So many cycles from an empty segment: the first, third, .. into the first profile, the second, fourth, .. into the second.
 // They are lent apart, as paper 01 has them: `last_cycle` keeps a part of one, which could not be lent from a struct of both.
+#[tactic(auto, using(crate::specs::Arrivals::divisor_pos))]
 pub fn alternate(
     running: u32,
     discharge: &[u32],
@@ -158,17 +179,26 @@ pub fn alternate(
     ensures { work result first.new second.new
         ≡ cycles_worked running discharge.now cycles first.old second.old }
 {
-    work_cycles(running, discharge, first, second, 1, cycles)
+    let platoon = Platoon {
+        running,
+        state: EMPTY,
+    };
+    platoon.work_cycles(discharge, first, second, Turns::Two, cycles)
 }
 
 // The last of so many cycles from an empty segment, each over the one before it in one profile, with no other beside it.
+#[tactic(auto, using(crate::specs::Arrivals::divisor_pos))]
 pub fn disperse_last(running: u32, discharge: &[u32], profile: &mut [u32], cycles: u32)
     requires running_le_most_running { running ≤ most_running }
     requires discharge_in_bounds { length discharge.now ≤ length profile.old }
     requires cycles_nonzero { 0 < cycles }
     ensures { profile.new ≡ held running discharge.now cycles profile.old }
 {
-    work_cycles(running, discharge, profile, &mut [], 0, cycles);
+    let platoon = Platoon {
+        running,
+        state: EMPTY,
+    };
+    platoon.work_cycles(discharge, profile, &mut [], Turns::One, cycles);
 }
 
 // Whether the first profile holds the last of so many cycles; otherwise the second does.

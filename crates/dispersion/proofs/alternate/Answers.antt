@@ -1,5 +1,5 @@
 use Rattle.std.proofs.Common.{◌∙◌}
-use Rattle.dispersion.proofs.Turns.{two_left}
+use Rattle.dispersion.proofs.Cycles.{two_left}
 use Rattle.dispersion.proofs.alternate.Goals as goal
 
 pub returns : goal.returns

@@ -1,4 +1,4 @@
-use Rattle.dispersion.proofs.Turns.{alone_done}
+use Rattle.dispersion.proofs.Cycles.{alone_done}
 use Rattle.dispersion.proofs.disperse_last.Goals as goal
 
 pub returns : goal.returns

@@ -2,12 +2,18 @@
 use Rattle.std.proofs.Common.{ℕ, zero, suc, ◌+◌, ◌%◌, ◌≤◌, ◌<◌, add-one, arith, eqb, ◌≡◌, refl, ap, sym, ◌∙◌, List, length}
 use Rattle.std.proofs.Math.Nat.{le_dest}
 use Rattle.dispersion.specs.declared.PlatoonState.{PlatoonState}
+use Rattle.dispersion.specs.declared.Turns.{Turns}
+use Rattle.dispersion.specs.declared.Turns.TheVariants.{One, Two}
 use Rattle.dispersion.specs.Dispersion.{divisor_of, empty_state, state_after, repeated, held, cycle_written}
-use Rattle.dispersion.specs.Dispersion.{Work, work, into_first, turn_worked, turns_worked, cycle_worked, cycles_worked}
+use Rattle.dispersion.specs.Dispersion.{Work, work, into_first, others_of, turn_worked, turns_worked, cycle_worked, cycles_worked}
 use Rattle.dispersion.specs.Arrivals.{divisor_pos, state_append, state_carry}
 use Rattle.dispersion.specs.Cycles.{end_of, end_next, reported_is, either_state, cycle_over}
 use Rattle.dispersion.specs.Rest.{AtRest, needed_of, rest_end, rest_same, rest_skips}
 use Rattle.dispersion.proofs.Needed.{Enough, next_needed}
+
+pub others_le_1 : (turns : Turns) → others_of turns ≤ 1
+others_le_1 One = omega arith
+others_le_1 Two = omega arith
 
 -- ---- what the cycles leave
 
