@@ -50,6 +50,7 @@ fn divisor(running: u32) -> u64
 }
 
 // The platoon arrival time in steps (t' of the paper), to the nearest, halves up.
+// `as` here and in a step, since each number is one of 32 bits: `try_from` would have a case that cannot be.
 #[tactic(auto, unfolding(crate::specs::Dispersion::arrival_time_of))]
 pub fn arrival_time(running: u32) -> u32
     ensures { result ≡ arrival_time_of running }
