@@ -11,10 +11,6 @@ use Rattle.dispersion.specs.Cycles.{end_of, end_next, reported_is, either_state,
 use Rattle.dispersion.specs.Rest.{AtRest, needed_of, rest_end, rest_same, rest_skips}
 use Rattle.dispersion.proofs.Needed.{Enough, next_needed}
 
-pub others_le_1 : (turns : Turns) → others_of turns ≤ 1
-others_le_1 One = omega arith
-others_le_1 Two = omega arith
-
 -- ---- what the cycles leave
 
 -- with one other profile they alternate
@@ -72,25 +68,25 @@ module _ (running : ℕ) (q : List ℕ) (k : ℕ) (h : AtRest running q (end_of 
   two_rest : suc (suc k) ≤ n → turns_worked running q 1 (suc (suc k)) f g ≡ turns_worked running q 1 n f g
   two_rest more = two_left running q (suc (suc k)) f g ∙ rest_skips running q k h n f g more ∙ sym (two_left running q n f g)
 
-  turns_rest : (others : ℕ) → others ≤ 1 → k + 1 + others ≤ n → turns_worked running q others (k + 1 + others) f g ≡ turns_worked running q others n f g
-  turns_rest zero few more = let e : k + 1 + 0 ≡ suc k = omega arith in rw e (alone_rests (omega arith))
-  turns_rest (suc zero) few more = let e : k + 1 + 1 ≡ suc (suc k) = omega arith in rw e (two_rest (omega arith))
-  turns_rest (suc (suc others)) few more = absurd (omega arith)
+  turns_rest : (turns : Turns) → k + 1 + others_of turns ≤ n
+      → turns_worked running q (others_of turns) (k + 1 + others_of turns) f g ≡ turns_worked running q (others_of turns) n f g
+  turns_rest One more = let e : k + 1 + 0 ≡ suc k = omega arith in rw e (alone_rests (omega arith))
+  turns_rest Two more = let e : k + 1 + 1 ≡ suc (suc k) = omega arith in rw e (two_rest (omega arith))
 
 -- ---- k cycles are worked, and those that need working leave what all n do
 
-pub record Turning (running : ℕ) (q : List ℕ) (others n : ℕ) (f₀ g₀ f g : List ℕ) (s : PlatoonState) (needed k : ℕ) : Type 0 where
+pub record Turning (running : ℕ) (q : List ℕ) (turns : Turns) (n : ℕ) (f₀ g₀ f g : List ℕ) (s : PlatoonState) (needed k : ℕ) : Type 0 where
   pub within : k ≤ needed
   pub no_more : needed ≤ n
   pub carried : s.carry < divisor_of running
   pub long_first : length f ≡ length f₀
   pub long_second : length g ≡ length g₀
-  pub are : work s f g ≡ turns_worked running q others k f₀ g₀
-  pub enough : turns_worked running q others needed f₀ g₀ ≡ turns_worked running q others n f₀ g₀
+  pub are : work s f g ≡ turns_worked running q (others_of turns) k f₀ g₀
+  pub enough : turns_worked running q (others_of turns) needed f₀ g₀ ≡ turns_worked running q (others_of turns) n f₀ g₀
 
-pub turning_start : (running : ℕ) (q : List ℕ) (others n : ℕ) (f g : List ℕ) → Turning running q others n f g f g empty_state n 0
+pub turning_start : (running : ℕ) (q : List ℕ) (turns : Turns) (n : ℕ) (f g : List ℕ) → Turning running q turns n f g f g empty_state n 0
 unfolding turns_worked
-turning_start running q others n f g =
+turning_start running q turns n f g =
     record {
       within = omega arith;
       no_more = omega arith;
@@ -102,25 +98,25 @@ turning_start running q others n f g =
     }
 
 -- a turn: cycle k + 1 from s to t, and how many are needed then
-module _ {running : ℕ} {q : List ℕ} {others n : ℕ} {f₀ g₀ f g : List ℕ} {s : PlatoonState} {needed k : ℕ}
-    (r : Turning running q others n f₀ g₀ f g s needed k) (few : others ≤ 1) (more : k < needed)
+module _ {running : ℕ} {q : List ℕ} {turns : Turns} {n : ℕ} {f₀ g₀ f g : List ℕ} {s : PlatoonState} {needed k : ℕ}
+    (r : Turning running q turns n f₀ g₀ f g s needed k) (more : k < needed)
     (t : PlatoonState) (f' g' : List ℕ) (needed' : ℕ)
-    (e : work t f' g' ≡ turn_worked running q others k (work s f g)) (e' : needed' ≡ needed_of (k + 1) others needed s t) where
+    (e : work t f' g' ≡ turn_worked running q (others_of turns) k (work s f g)) (e' : needed' ≡ needed_of (k + 1) (others_of turns) needed s t) where
   next_state : t ≡ state_after running q s
-  next_state = ap (λ (w : Work). w.state) e ∙ turn_state running q others k (work s f g)
+  next_state = ap (λ (w : Work). w.state) e ∙ turn_state running q (others_of turns) k (work s f g)
 
   rests : s ≡ t → AtRest running q (end_of running q k)
   rests same =
-      let is : s ≡ end_of running q k = ap (λ (w : Work). w.state) r.are ∙ turns_state running q others k f₀ g₀ in
+      let is : s ≡ end_of running q k = ap (λ (w : Work). w.state) r.are ∙ turns_state running q (others_of turns) k f₀ g₀ in
       rw (← is) (sym (same ∙ next_state))
 
-  turn_needed : Enough (λ m. turns_worked running q others m f₀ g₀) n needed k needed'
+  turn_needed : Enough (λ m. turns_worked running q (others_of turns) m f₀ g₀) n needed k needed'
   turn_needed =
-      next_needed (λ m. turns_worked running q others m f₀ g₀) others more few r.enough
-      (λ same less. turns_rest running q k (rests same) needed f₀ g₀ others few less)
+      next_needed (λ m. turns_worked running q (others_of turns) m f₀ g₀) turns more r.enough
+      (λ same less. turns_rest running q k (rests same) needed f₀ g₀ turns less)
       e'
 
-  pub turn : length f' ≡ length f → length g' ≡ length g → Turning running q others n f₀ g₀ f' g' t needed' (k + 1)
+  pub turn : length f' ≡ length f → length g' ≡ length g → Turning running q turns n f₀ g₀ f' g' t needed' (k + 1)
   unfolding turns_worked
   turn lf lg =
       record {
