@@ -1,6 +1,6 @@
 -- As much of a piece as there is room for, copied into the middle of the buffer, is the piece put there.
-use Rattle.std.specs.Prelude.{ℕ, replicate, ◌+◌, ◌-◌, ◌≤◌, ◌<◌, min, Bool, true, false, ◌≡◌, refl, List, length, take, drop, leb}
-use Rattle.std.proofs.Common.{arith, sym, ap, ◌∙◌, append_assoc, leb-true, leb-false, length-drop}
+use Rattle.std.specs.Prelude.{ℕ, replicate, ◌+◌, ◌-◌, ◌≤◌, ◌<◌, min, Bool, true, false, ◌≡◌, refl, List, [], ◌∷◌, length, take, drop, leb}
+use Rattle.std.proofs.Common.{arith, sym, ap, ◌∙◌, append_assoc, leb-true, leb-false, length-drop, slice_set}
 use Rattle.std.proofs.Math.ListN.{drop_of_length-le, length-take}
 use Rattle.std.proofs.lemmas.List.{take-append-drop, take-replicate, length-replicate}
 use Rattle.std.proofs.lemmas.List.Edits.{sets, sets-eq}
@@ -14,9 +14,13 @@ wrote : (b : List ℕ) (at : ℕ) (piece : List ℕ) {b' : List ℕ} {p : ℕ} �
 unfolding put
 wrote b at piece e f = rw (e, f)
 
-pub past : (b : List ℕ) (at : ℕ) (piece : List ℕ) → length b < at → put (cursor b at) piece ≡ cursor b at
+pub past : (b : List ℕ) (at : ℕ) (piece : List ℕ) → length b ≤ at → put (cursor b at) piece ≡ cursor b at
 unfolding next_place
 past b at piece h = wrote _ _ _ (sym (sets_out b at piece (omega arith))) (omega arith)
+
+pub placed : (b : List ℕ) (at byte : ℕ) → at < length b → put (cursor b at) (byte ∷ []) ≡ cursor (slice_set b at byte) (at + 1)
+unfolding next_place
+placed b at byte h = wrote b at (byte ∷ []) refl (omega arith)
 
 module _ (b : List ℕ) (at : ℕ) (piece : List ℕ) {n : ℕ} (start : at ≤ length b) (most : n ≡ min (length piece) (length b - at)) where
   taken : length (take n piece) ≡ n

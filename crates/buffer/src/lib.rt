@@ -1,7 +1,7 @@
 // Bytes put into a lent buffer from a place on, as many as it has room for; what lies beyond them is kept.
 #![tactic(auto)]
 
-ghost use Rattle.std.specs.Prelude.{replicate};
+ghost use Rattle.std.specs.Prelude.{[], ◌∷◌, replicate};
 ghost use Rattle.buffer.specs.Buffer.{Wrote};
 
 // A lent buffer and the place in it where the next piece goes.
@@ -24,6 +24,18 @@ impl<'a> Writer<'a> {
         let n = piece.len().min(self.bytes.len() - at);
         self.bytes[at..at + n].copy_from_slice(&piece[..n]);
         self.at = at + n;
+    }
+
+    // One byte. By itself: a piece of one would be filled by the C library's memset, whose masked store may lower the processor's clock
+    // (docs/PERFORMANCE.md).
+    #[tactic(auto, using(crate::proofs::Copied::past, crate::proofs::Copied::placed))]
+    pub fn put_byte(&mut self, byte: u8)
+        ensures { Wrote self.old (byte ∷ []) self.new }
+    {
+        if self.at < self.bytes.len() {
+            self.bytes[self.at] = byte;
+            self.at += 1;
+        }
     }
 
     // So many times a byte.

@@ -26,7 +26,7 @@ pub fn line<F: FnOnce(&mut Writer)>(text: &mut Writer, words: F)
         b' ',
         LINE_WIDTH.saturating_sub(text.at.saturating_sub(from)),
     );
-    text.put(b"\n");
+    text.put_byte(b'\n');
 }
 
 // So many blank lines.

@@ -15,7 +15,7 @@ use text::append_field;
 fn end_line(text: &mut Writer)
     ensures { Wrote text.old newline text.new }
 {
-    text.put(b"\n");
+    text.put_byte(b'\n');
 }
 
 // A line without its end: the exam sheet has it too, ended as its page is.
