@@ -6,7 +6,7 @@ ghost use Rattle.std.specs.Prelude.{◌≡◌};
 ghost use Rattle.balance.specs.Settling.{round_limit, cells_of, unsettled, closed, start, settle, balanced};
 
 use balance_flows::{FlowTable, Flows};
-use balance_round::Round;
+use balance_round::{Balancing, Round};
 use movements::{Counts, Seeds};
 
 // The outcome with the last sum of differences reached, in the form of paper 01: unsettled is no error.
@@ -73,18 +73,18 @@ fn start(o: Flows) -> Round
 }
 
 #[tactic(auto, using(crate::proofs::Rounds::stopped, crate::proofs::Rounds::closes, crate::proofs::Rounds::goes, crate::proofs::Rounds::spent))]
-fn settle(o: Flows, d: Flows, p: FlowTable) -> Balance
-    ensures { result ≡ settle round_limit o d p }
+fn settle(balancing: Balancing) -> Balance
+    ensures { result ≡ settle round_limit balancing.origins balancing.destinations balancing.proportions }
 {
-    let mut before = start(o);
+    let mut before = start(balancing.origins);
     for n in 0..ROUND_LIMIT {
-        let round = balance_round::round_of(o, d, p, before.origins);
-        if balance_round::stops(o, d, round) {
+        let round = balancing.round(before.origins);
+        if balancing.stops(round) {
             return unsettled(before.change, n);
         }
         if round.change < THRESHOLD {
             return closed(
-                cells_of(round.origins, round.ratios, p),
+                cells_of(round.origins, round.ratios, balancing.proportions),
                 round.change,
                 n + 1,
             );
@@ -100,6 +100,11 @@ pub fn balanced(o: Counts, exits: Counts, seeds: Seeds) -> Balance
     ensures { result ≡ balanced o exits seeds }
 {
     let origins = balance_volumes::discharge_floats(o);
-    let d = balance_volumes::destination_volumes(origins, balance_volumes::exit_floats(exits));
-    settle(origins, d, balance_volumes::proportions(seeds))
+    let exits = balance_volumes::exit_floats(exits);
+    let destinations = balance_volumes::destination_volumes(origins, exits);
+    settle(Balancing {
+        origins,
+        destinations,
+        proportions: balance_volumes::proportions(seeds),
+    })
 }

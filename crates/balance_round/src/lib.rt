@@ -67,32 +67,43 @@ fn any_no_quotient(n: Flows, m: Flows) -> bool
     n.zip_with(m, no_quotient).any()
 }
 
-// The round that starts from the adjusted origins `old`.
-#[tactic(auto, unfolding(crate::specs::Round::round_of))]
-pub fn round_of(o: Flows, d: Flows, p: FlowTable, old: Flows) -> Round
-    ensures { result ≡ round_of o d p old }
-{
-    let destinations = destinations_of(old, p);
-    let ratios = balance_flows::quotients(d, destinations);
-    let factors = factors_of(ratios, p);
-    let origins = balance_flows::quotients(o, factors);
-    let change = change_of(origins, old);
-    Round {
-        destinations,
-        ratios,
-        factors,
-        origins,
-        change,
-    }
+// What is to be balanced: what the entries discharge, what the exits take, and the seed proportions of the pairs.
+#[derive(Clone, Copy)]
+pub struct Balancing {
+    pub origins: Flows,
+    pub destinations: Flows,
+    pub proportions: FlowTable,
 }
 
-// Whether the round stops before its end.
-#[tactic(auto, unfolding(crate::specs::Round::stops), using(balance_flows::proofs::Finite::is_finite_is))]
-pub fn stops(o: Flows, d: Flows, x: Round) -> bool
-    ensures { result ≡ stops o d x }
-{
-    let undivided = any_no_quotient(d, x.destinations) | any_no_quotient(o, x.factors);
-    let exits = balance_flows::all_finite(x.destinations) & balance_flows::all_finite(x.ratios);
-    let entries = balance_flows::all_finite(x.factors) & balance_flows::all_finite(x.origins);
-    undivided | !(exits & entries & x.change.is_finite())
+impl Balancing {
+    // The round that starts from the adjusted origins `old`.
+    #[tactic(auto, unfolding(crate::specs::Round::round_of))]
+    pub fn round(self, old: Flows) -> Round
+        ensures { result ≡ round_of self.origins self.destinations self.proportions old }
+    {
+        let destinations = destinations_of(old, self.proportions);
+        let ratios = balance_flows::quotients(self.destinations, destinations);
+        let factors = factors_of(ratios, self.proportions);
+        let origins = balance_flows::quotients(self.origins, factors);
+        let change = change_of(origins, old);
+        Round {
+            destinations,
+            ratios,
+            factors,
+            origins,
+            change,
+        }
+    }
+
+    // Whether a round stops before its end.
+    #[tactic(auto, unfolding(crate::specs::Round::stops), using(balance_flows::proofs::Finite::is_finite_is))]
+    pub fn stops(self, x: Round) -> bool
+        ensures { result ≡ stops self.origins self.destinations x }
+    {
+        let undivided = any_no_quotient(self.destinations, x.destinations)
+            | any_no_quotient(self.origins, x.factors);
+        let exits = balance_flows::all_finite(x.destinations) & balance_flows::all_finite(x.ratios);
+        let entries = balance_flows::all_finite(x.factors) & balance_flows::all_finite(x.origins);
+        undivided | !(exits & entries & x.change.is_finite())
+    }
 }

@@ -24,8 +24,8 @@ runs_discharge s p r =
     }
 
 -- at the volumes that the call answered
-entries_discharge : (l p : List ℕ) (r : Or (Signalised ℕ)) (p' : List ℕ) → r ≡ volumes_after (accept_of l (length p)) → p' ≡ profile_after (accept_of l (length p)) p →
-    (o : Signalised ℕ) → r ≡ Ok o → EntriesDischarge (segment_of l) o p'
+entries_discharge : (l p : List ℕ) (r : Or (Signalised ℕ)) (p' : List ℕ) → r ≡ volumes_after (accept_of l (length p))
+    → p' ≡ profile_after (accept_of l (length p)) p → (o : Signalised ℕ) → r ≡ Ok o → EntriesDischarge (segment_of l) o p'
 entries_discharge l p r p' er ep o e = go (accept_of l (length p)) refl er ep
   where
     go : (x : Or Segment) → accept_of l (length p) ≡ x → r ≡ volumes_after x → p' ≡ profile_after x p → EntriesDischarge (segment_of l) o p'

@@ -39,7 +39,8 @@ segment_text_lem Sheet bytes h =
 part_bytes : (l : List ℕ) → Bytes l → (n at : ℕ) → Bytes (take n (drop at l))
 part_bytes l h n at = first_below 256 n (drop at l) (omega arith) (λ i. rw get_or-drop (h (at + i)))
 
-records_text_lem : (form : Form) (l : List ℕ) → Bytes l → (size count at : ℕ) → length (records_text form (filed_from size count l at)) ≤ count * record_room form
+records_text_lem : (form : Form) (l : List ℕ) → Bytes l → (size count at : ℕ)
+    → length (records_text form (filed_from size count l at)) ≤ count * record_room form
 unfolding records_text filed_from
 records_text_lem form l h size zero at = omega arith
 records_text_lem form l h size (suc k) at =
@@ -98,7 +99,8 @@ text_whole form l t bytes e roomy w =
     rw (le-leb _ _ h) (record { answer = rw (fits.1, z); buffer = rw z at fits.0 })
 
 -- a caller with room reads the whole text
-pub whole_text : (form : Form) (l t : List ℕ) {r : Or ℕ} {t' : List ℕ} → text_room form ≤ length t → Writes (text_of form l (length t)) t r t' → Text form l t' r
+pub whole_text : (form : Form) (l t : List ℕ) {r : Or ℕ} {t' : List ℕ} → text_room form ≤ length t → Writes (text_of form l (length t)) t r t'
+    → Text form l t' r
 unfolding need
 whole_text form l t {r} {t'} h w =
     let v = rw (le-leb (text_room form) (length t) h) at w in

@@ -42,7 +42,8 @@ module _ (number cycle : ℕ) (after p : Profiles) (page : List ℕ) {w : Workin
 
 -- ---- a call that works, from its answer, profiles and buffer alone
 
-module _ (l : List ℕ) (p : Profiles) (page : List ℕ) {w : Working} {p' : Profiles} {page' : List ℕ} (is : sheet_called (Ok w) p' page' ≡ sheet_call_of l p page) where
+module _ (l : List ℕ) (p : Profiles) (page : List ℕ) {w : Working} {p' : Profiles} {page' : List ℕ}
+    (is : sheet_called (Ok w) p' page' ≡ sheet_call_of l p page) where
   prints : ((call_of l p).answer ≡ Ok w) × (sheet_called (Ok w) p' page' ≡ printed (word4 l number_at) (segment_of l).cycle w (call_of l p).after page)
   unfolding sheet_call_of
   prints = by_worked (word4 l number_at) (segment_of l).cycle (call_of l p).after p page (call_of l p).answer is

@@ -4,4 +4,4 @@ use Rattle.balance.proofs.Rounds.{RoundsLeft}
 use Rattle.balance.proofs.settle.Given as goal
 
 abbrev pub invariant-loop-n : goal.invariant-loop-n
-invariant-loop-n l = RoundsLeft round_limit l.o l.d l.p l.before l.n
+invariant-loop-n l = RoundsLeft round_limit l.balancing.origins l.balancing.destinations l.balancing.proportions l.before l.n
