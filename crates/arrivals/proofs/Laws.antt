@@ -1,5 +1,6 @@
 -- Laws of specs/Laws.antt: Laws of the output: four runs as a function of exit and step, begun by access, added to by an entry, and read number by number.
-use Rattle.std.specs.Prelude.{ℕ, zero, suc, ◌+◌, ◌-◌, ◌*◌, ◌≤◌, ◌<◌, Bool, true, false, ◌≡◌, refl, List, [], ◌∷◌, ◌++◌, ltb, length, take, drop, get_or, replicate}
+use Rattle.std.specs.Prelude.{ℕ, zero, suc, ◌+◌, ◌-◌, ◌*◌, ◌≤◌, ◌<◌, Bool, true, false, ◌≡◌, refl, List, [], ◌∷◌, ◌++◌, ltb}
+use Rattle.std.specs.Prelude.{length, take, drop, get_or, replicate}
 use Rattle.std.proofs.Common.{arith, ◌∙◌, take_at, drop_at, drop-drop, get_or-drop, ltb-true, ltb-false}
 use Rattle.std.proofs.Math.ListN.{get_or-append}
 use Rattle.lists.specs.Lists.{tab, tab_length, tab_at, tab_constant, number_at}
@@ -104,7 +105,8 @@ pub added_runs : (c t w : ℕ) (arrived row : List ℕ) (r : ℕ → ℕ → ℕ
     entry_added c t w arrived row (four_runs c r rest) ≡ four_runs c (λ j s. r j s + landing c t s 1 (pair_arrivals (get_or row j 0) w arrived)) rest
 unfolding entry_added runs
 added_runs c t w arrived row r rest pos four =
-    rw four at (each (λ v run. added c t 1 (pair_arrivals v w arrived) run) c r (λ j s. r j s + landing c t s 1 (pair_arrivals (get_or row j 0) w arrived)) row rest
+    let q : ℕ → ℕ → ℕ = λ j s. r j s + landing c t s 1 (pair_arrivals (get_or row j 0) w arrived) in
+    rw four at (each (λ v run. added c t 1 (pair_arrivals v w arrived) run) c r q row rest
     (λ j. added_tab c t (r j) (pair_arrivals (get_or row j 0) w arrived) pos))
 
 -- what lands in a step is no more than the largest arrival

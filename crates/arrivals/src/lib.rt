@@ -57,6 +57,7 @@ impl Share for Pair {
 
     ghost fair = { λ s. (s.v ≤ s.w) × (s.carry < s.w) };
 
+    // `as` here and of a run's length, since each number is one of 32 bits: `try_from` would have a case that cannot be.
     #[tactic(auto, using(pair_parts::proofs::Laws::part_le, pair_parts::proofs::Laws::rest_lt), unfolding(pair_parts::specs::PairParts::parts))]
     fn part(&mut self, arrival: u32) -> u32 {
         let whole = u64::from(arrival) * u64::from(self.v) + u64::from(self.carry);

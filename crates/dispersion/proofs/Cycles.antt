@@ -5,7 +5,8 @@ use Rattle.dispersion.specs.declared.PlatoonState.{PlatoonState}
 use Rattle.dispersion.specs.declared.Turns.{Turns}
 use Rattle.dispersion.specs.declared.Turns.TheVariants.{One, Two}
 use Rattle.dispersion.specs.Dispersion.{divisor_of, empty_state, state_after, repeated, held, cycle_written}
-use Rattle.dispersion.specs.Dispersion.{Work, work, into_first, others_of, turn_worked, turns_worked, cycle_worked, cycles_worked}
+use Rattle.dispersion.specs.Dispersion.{Work, work, into_first, cycle_worked, cycles_worked}
+use Rattle.dispersion.specs.Turns.{others_of, turn_worked, turns_worked}
 use Rattle.dispersion.specs.Arrivals.{divisor_pos, state_append, state_carry}
 use Rattle.dispersion.specs.Cycles.{end_of, end_next, reported_is, either_state, cycle_over}
 use Rattle.dispersion.specs.Rest.{AtRest, needed_of, rest_end, rest_same, rest_skips}

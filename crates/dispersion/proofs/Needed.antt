@@ -3,7 +3,7 @@ use Rattle.std.proofs.Common.{ℕ, ◌+◌, ◌≤◌, ◌<◌, arith, Bool, tru
 use Rattle.dispersion.specs.declared.PlatoonState.{PlatoonState}
 use Rattle.dispersion.specs.declared.Turns.{Turns}
 use Rattle.dispersion.specs.declared.Turns.TheVariants.{One, Two}
-use Rattle.dispersion.specs.Dispersion.{others_of}
+use Rattle.dispersion.specs.Turns.{others_of}
 use Rattle.dispersion.specs.Rest.{same_state, needed_when, needed_of}
 use Rattle.dispersion.proofs.Rest.{same_state_lem}
 

@@ -1,8 +1,6 @@
 -- Platoon dispersion, from 30-11 and 30-12 with steps of one second. Running times are in milliseconds.
 use Rattle.std.specs.Prelude.{ℕ, zero, suc, ◌+◌, ◌-◌, ◌*◌, ◌/◌, ◌%◌, Bool, cond, List, [], ◌∷◌, ◌++◌, eqb, length, take, drop}
 use Rattle.dispersion.specs.declared.PlatoonState.{PlatoonState}
-use Rattle.dispersion.specs.declared.Turns.{Turns}
-use Rattle.dispersion.specs.declared.Turns.TheVariants.{One, Two}
 
 -- N: the smoothing factor F is N / D
 abbrev pub smoothing : ℕ
@@ -80,19 +78,6 @@ cycle_worked running q k w = cond (eqb (k % 2) 0) (into_first running q w) (into
 unfoldable pub cycles_worked : ℕ → List ℕ → ℕ → List ℕ → List ℕ → Work
 cycles_worked running q zero f g = work empty_state f g
 cycles_worked running q (suc k) f g = cycle_worked running q k (cycles_worked running q k f g)
-
--- how many profiles take cycles beside the first
-abbrev pub others_of : Turns → ℕ
-others_of One = 0
-others_of Two = 1
-
--- the same with so many profiles beside the first: one, the second, or none, where each cycle goes into the first
-abbrev pub turn_worked : ℕ → List ℕ → (others k : ℕ) → Work → Work
-turn_worked running q others k w = cond (eqb (k % (others + 1)) 0) (into_first running q w) (into_second running q w)
-
-unfoldable pub turns_worked : ℕ → List ℕ → (others cycles : ℕ) → List ℕ → List ℕ → Work
-turns_worked running q others zero f g = work empty_state f g
-turns_worked running q others (suc k) f g = turn_worked running q others k (turns_worked running q others k f g)
 
 -- the first profile holds the last of so many cycles where their number is odd
 abbrev pub first_holds : ℕ → Bool

@@ -5,8 +5,9 @@
 ghost use Rattle.std.specs.Prelude.{◌≡◌, ◌≤◌, ◌<◌, length};
 ghost use Rattle.limits.specs.Limits.{most_running};
 ghost use Rattle.dispersion.specs.Dispersion.{divisor_of, arrival_time_of, empty_state, step_of, state_after, cycle_written};
-ghost use Rattle.dispersion.specs.Dispersion.{held, work, others_of, turn_worked, turns_worked, cycles_worked, first_holds, last_part};
+ghost use Rattle.dispersion.specs.Dispersion.{held, work, cycles_worked, first_holds, last_part};
 ghost use Rattle.dispersion.specs.Rest.{needed_of};
+ghost use Rattle.dispersion.specs.Turns.{others_of, turn_worked, turns_worked};
 
 // The numerator of the smoothing factor (N of the paper); the divisor stands under it.
 const SMOOTHING: u64 = 500000;
@@ -82,7 +83,8 @@ impl Platoon {
         }
     }
 
-    // One cycle: the arrivals go to the front of the profile, whose numbers beyond stay.
+    // One cycle: the arrivals go to the front of the profile, whose numbers beyond stay. By index: tried as a `zip` of the profile's
+    // `iter_mut`, what remains is what the profile then holds, of which the library tells only the length.
     fn disperse(self, discharge: &[u32], profile: &mut [u32]) -> PlatoonState
         requires discharge_in_bounds { length discharge.now ≤ length profile.old }
         ensures value { result ≡ state_after self.running discharge.now self.state }

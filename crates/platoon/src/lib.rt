@@ -25,6 +25,7 @@ pub struct Served {
     pub waiting: u64,
 }
 
+// `as` here and of a run's length, since each number is one of 32 bits: `try_from` would have a case that cannot be.
 #[tactic(auto, unfolding(crate::specs::Discharge::served_of))]
 fn serve(queue: u64, rate: u32) -> Served
     ensures { result ≡ served_of queue rate }
@@ -65,7 +66,8 @@ fn release(timing: Timing, queue: Queue, run: &mut [u32])
     }
 }
 
-// The queue of a cycle of c steps at a discharge volume: what does not arrive on green waits when green starts.
+// The queue of a cycle of c steps at a discharge volume: what does not arrive on green waits when green starts. Three numbers stand apart
+// here and below: an entry gives two, metering the volume, and a struct would be built for one call and taken apart by each definition.
 #[tactic(auto, unfolding(crate::specs::Discharge::queue_of, crate::specs::Discharge::carried, crate::specs::Discharge::green_arrivals))]
 fn queue_of(c: u32, saturation: u32, arriving: u32, volume: u32) -> Queue
     requires { (c < step_bound) × (saturation ≤ flow_limit) × (arriving ≤ most_arriving) × (volume ≤ entry_limit) }

@@ -1,5 +1,6 @@
 -- The loop over the points: i runs filled and counted, the others to come.
-use Rattle.std.proofs.Common.{ℕ, zero, suc, ◌+◌, ◌-◌, ◌*◌, ◌≤◌, ◌<◌, arith, add-one, true, ◌≡◌, refl, sym, ◌∙◌, List, ◌++◌, map, length, take, drop, set, get_or, replicate, length-set, drop_of_length-le, drop-cons}
+use Rattle.std.proofs.Common.{ℕ, zero, suc, ◌+◌, ◌-◌, ◌*◌, ◌≤◌, ◌<◌, arith, add-one, true, ◌≡◌, refl, sym, ◌∙◌, List, ◌++◌, map}
+use Rattle.std.proofs.Common.{length, take, drop, set, get_or, replicate, length-set, drop_of_length-le, drop-cons}
 use Rattle.std.proofs.Math.Numerals.{unary_clauses}
 use Rattle.std.proofs.Math.ListN.{length-map}
 use Rattle.std.proofs.Math.Nat.{sub-zero}

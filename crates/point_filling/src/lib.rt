@@ -27,24 +27,22 @@ fn pass(running: u32, discharge: &[u32], run: &mut [u32])
     arrivals::add_whole(&arrived[0..c], dispersion::arrival_time(running), run);
 }
 
-// One point: access begins its run, then each signalised entry passes. Its blocked steps, by its own headway.
+// One point: access begins its run, then each signalised entry's discharge passes. Its blocked steps, by its own headway.
 fn fill_point(accepted: Accepted, p: Point, discharges: &[u32], run: &mut [u32]) -> u32
     requires { PointFits accepted p discharges.now run.old }
     ensures run_after { run.new ≡ point_run accepted p }
     ensures value { result ≡ point_blocked accepted p }
 {
     let s = accepted.segment;
-    let one = s.cycle as usize;
-    let two = one + one;
-    let three = two + one;
     runs::fill(run, movements::flow_units(s.access));
-    pass(p.running, &discharges[0..one], run);
-    pass(p.running, &discharges[one..two], run);
-    pass(p.running, &discharges[two..three], run);
+    for discharge in discharges.chunks_exact(s.cycle as usize) {
+        pass(p.running, discharge, run);
+    }
     Run { steps: &run[..] }.blocked_steps(p.headway)
 }
 
-// The points given, in order; the count of one that is not given is 0.
+// The points given, in order; the count of one that is not given is 0. Runs are cut and counts written by place: tried as a `zip` with
+// `chunks_exact_mut` and `iter_mut`, what remains is what both then hold, of which the library tells only the length.
 fn fill_each(
     accepted: Accepted,
     points: Points,

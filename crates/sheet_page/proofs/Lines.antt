@@ -1,6 +1,6 @@
 -- The rows of a run and the lines of the entries, the next of those left and none; and the page from its parts.
-use Rattle.std.specs.Prelude.{ℕ, zero, suc, ◌+◌, ◌-◌, ◌*◌, ◌≤◌, ◌<◌, min, Bool, true, false, ◌≡◌, refl, List, [], ◌++◌, length, take, drop, leb}
-use Rattle.std.proofs.Common.{arith, ap, sym, ◌∙◌, length-append, length-drop, leb-true, leb-false}
+use Rattle.std.specs.Prelude.{ℕ, zero, suc, ◌+◌, ◌-◌, ◌*◌, ◌≤◌, ◌<◌, min, ◌≡◌, refl, List, [], ◌++◌, length, take, drop}
+use Rattle.std.proofs.Common.{arith, ap, ◌∙◌, length-append, length-drop}
 use Rattle.std.proofs.Math.ListN.{drop_of_length-le}
 use Rattle.std.proofs.Math.Seq.{length-take-le}
 use Rattle.std.proofs.lemmas.List.{take_at, drop_at, take_min, drop_min}

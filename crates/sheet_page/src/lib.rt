@@ -90,7 +90,7 @@ fn head_lines(text: &mut Writer, number: u32, cycle: u32, w: Working)
     exit_lines(text, w);
 }
 
-// The page of a record that has worked.
+// The page of a record that has worked. One run of the output is cut by place: no loop goes over the others.
 #[tactic(auto, using(crate::proofs::Lines::page_done))]
 pub fn worked_page(text: &mut Writer, number: u32, cycle: u32, w: Working, output: &[u32])
     requires { cycle + cycle ≤ length output.now }

@@ -19,7 +19,9 @@ pub loop-arrival-preserved : goal.loop-arrival-preserved
 loop-arrival-preserved g c =
     let s = g.S.Share in
     let arrived = c.args.arrived.now in
-    let next = ap (s.parts c.loop-arrival.share) (rw add-one (drop-cons arrived c.loop-arrival.arrival-index 0 c.loop-arrival-test.true)) ∙ c.part.ensures.part _ in
+    let next =
+    ap (s.parts c.loop-arrival.share) (rw add-one (drop-cons arrived c.loop-arrival.arrival-index 0 c.loop-arrival-test.true))
+    ∙ c.part.ensures.part _ in
     (c.part.ensures.fair, landing_turn c.loop-arrival.invariant.1 c.requires.fits c.loop-arrival-test.true c.index-at.ensures next c.next-lands.ensures)
 
 pub returns : goal.returns
