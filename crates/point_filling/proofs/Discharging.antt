@@ -1,5 +1,5 @@
 -- The record's three discharges, made in one for the longest cycle, as the points take them.
-use Rattle.std.proofs.Common.{ℕ, ◌*◌, ◌≡◌, List, ◌++◌, length, take, take_at}
+use Rattle.std.proofs.Common.{ℕ, ◌*◌, arith, ◌≡◌, List, ◌++◌, length, take, take_at}
 use Rattle.segment.specs.declared.Segment.{Segment}
 use Rattle.entries.specs.Entries.{entry_profiles}
 use Rattle.entries.proofs.Laws.{entry_runs}
@@ -14,7 +14,7 @@ module _ (made rest : List ℕ) {s : Segment} (whole : length made ≡ 3 * s.cyc
       (record {
         discharged = record {
           entries = rw is (entry_runs s array);
-          long = whole;
+          long = omega (arith, whole);
         };
         fill = h;
       })

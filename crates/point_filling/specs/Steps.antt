@@ -20,7 +20,7 @@ pub record PassFits (running : ℕ) (discharge run : List ℕ) : Type 0 where
 -- the record's three discharges
 pub record Discharged (s : Segment) (discharges : List ℕ) : Type 0 where
   pub entries : EntryRuns s discharges
-  pub long : length discharges ≡ 3 * s.cycle
+  pub long : 3 * s.cycle ≤ length discharges
 
 -- and one point's run
 pub record PointFits (s : Segment) (p : Point) (discharges run : List ℕ) : Type 0 where

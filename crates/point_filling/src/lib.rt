@@ -27,17 +27,21 @@ fn pass(running: u32, discharge: &[u32], run: &mut [u32])
     arrivals::add_whole(&arrived[0..c], dispersion::arrival_time(running), run);
 }
 
-// One point: access begins its run, then each signalised entry's discharge passes. Its blocked steps, by its own headway.
+// One point: access begins its run, then each signalised entry passes. Its blocked steps, by its own headway. Three calls: a loop over the
+// library's chunks was tried and proves, with twice the proof, since a turn has to say which of the three entries its chunk is.
 fn fill_point(accepted: Accepted, p: Point, discharges: &[u32], run: &mut [u32]) -> u32
     requires { PointFits accepted p discharges.now run.old }
     ensures run_after { run.new ≡ point_run accepted p }
     ensures value { result ≡ point_blocked accepted p }
 {
     let s = accepted.segment;
+    let one = s.cycle as usize;
+    let two = one + one;
+    let three = two + one;
     runs::fill(run, movements::flow_units(s.access));
-    for discharge in discharges.chunks_exact(s.cycle as usize) {
-        pass(p.running, discharge, run);
-    }
+    pass(p.running, &discharges[0..one], run);
+    pass(p.running, &discharges[one..two], run);
+    pass(p.running, &discharges[two..three], run);
     Run { steps: &run[..] }.blocked_steps(p.headway)
 }
 
