@@ -28,7 +28,7 @@ fn pass(running: u32, discharge: &[u32], run: &mut [u32])
 }
 
 // One point: access begins its run, then each signalised entry passes. Its blocked steps, by its own headway. Three calls: a loop over the
-// library's chunks was tried and proves, with twice the proof, since a turn has to say which of the three entries its chunk is.
+// library's chunks was tried and proves, with sixty lines more of proof, since a turn has to say which of the three entries its chunk is.
 fn fill_point(accepted: Accepted, p: Point, discharges: &[u32], run: &mut [u32]) -> u32
     requires { PointFits accepted p discharges.now run.old }
     ensures run_after { run.new ≡ point_run accepted p }
