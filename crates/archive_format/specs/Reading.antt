@@ -1,6 +1,7 @@
 -- What an archive that reads is known to hold: one record at a place, records that run to the trailer, and every test passed.
 use Rattle.std.specs.Prelude.{ℕ, zero, suc, ◌+◌, ◌*◌, ◌-◌, ◌≤◌, ◌≡◌, refl, true, List, ◌∷◌, ◌++◌, leb, eqb, length, take, drop, get_or, Ok}
-use Rattle.std.proofs.Common.{add-zero, add-one, arith, sym, ap, ◌∙◌, length-take, length-drop, length-append, take-append-drop, drop-cons, drop-drop, get_or-take, get_or-drop, leb-true, eqb-true}
+use Rattle.std.proofs.Common.{add-zero, add-one, arith, sym, ap, ◌∙◌, length-take, length-drop, length-append, take-append-drop, drop-cons, drop-drop}
+use Rattle.std.proofs.Common.{get_or-take, get_or-drop, leb-true, eqb-true}
 use Rattle.refusal.specs.Refusal.{need_passed, need_rest, both}
 use Rattle.octets.specs.Octets.{word2, word4}
 use Rattle.archive_format.specs.declared.Edition.{Edition}

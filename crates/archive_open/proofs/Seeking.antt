@@ -1,31 +1,36 @@
 -- The loop that seeks a number among the records: the records left hold it where all of them do.
-use Rattle.std.specs.Prelude.{ℕ, suc, ◌-◌, ◌≤◌, ◌<◌, ◌≡◌, List, length, Ok, Err}
-use Rattle.std.proofs.Common.{arith, sym, ◌∙◌, eq-eqb, ne_eqb}
+use Rattle.std.specs.Prelude.{ℕ, ◌≤◌, ◌≡◌, List, length, Ok, Err}
+use Rattle.std.proofs.Common.{sym, ◌∙◌, eq-eqb, ne_eqb}
 use Rattle.refusal.specs.declared.Refusal.TheVariants.{Record}
 use Rattle.octets.specs.Octets.{word4}
-use Rattle.archive_format.specs.Archive.{find_in, record_number, next_at, filed_at, filed_from}
-use Rattle.archive_format.specs.Reading.{number_at, title_length}
-use Rattle.archive_open.specs.Walking.{Walk, walk_fits, walk_on}
+use Rattle.archive_format.specs.Archive.{find_in, record_number, filed_at, filed_from}
+use Rattle.archive_format.specs.Reading.{title_length}
+use Rattle.archive_open.specs.declared.records.Records.{Records}
+use Rattle.archive_open.specs.Records.{IsRecord, Through, through_on, through_next, through_fits, through_read, through_long}
 
-pub record Seeking (size : ℕ) (l : List ℕ) (count number left place : ℕ) : Type 0 where
-  pub walk : Walk size l left place
-  pub same : find_in size 0 (filed_from size count l 0) number ≡ find_in size place (filed_from size left l place) number
+pub record Seeking (size : ℕ) (l : List ℕ) (count number : ℕ) (r : Records) : Type 0 where
+  pub through : Through size l r
+  pub same : find_in size 0 (filed_from size count l 0) number ≡ find_in size r.place (filed_from size r.left l r.place) number
 
-module _ {size : ℕ} {l : List ℕ} {count number left place : ℕ} (w : Seeking size l count number left place) where
-  module _ {n : ℕ} (h4 : 4 ≤ size) (en : n ≡ word4 l place) where
-    num : record_number (filed_at size l place) ≡ n
-    num = number_at size l place h4 ∙ sym en
+module _ {size : ℕ} {l : List ℕ} {count number : ℕ} {r : Records} (w : Seeking size l count number r) where
+  module _ {place : ℕ} {b : List ℕ} {r' : Records} (g : IsRecord r place b r') where
+    pub seek_fits : 4 ≤ size → 4 ≤ length b
+    seek_fits h = rw (through_long w.through g) h
 
-    pub seek_found : 0 < left → n ≡ number → Ok place ≡ find_in size 0 (filed_from size count l 0) number
-    unfolding find_in filed_from
-    seek_found more f = let one : left ≡ suc (left - 1) = omega arith in sym (rw (w.same, one, num, eq-eqb _ _ f))
+    module _ {n : ℕ} (en : n ≡ word4 b 0) where
+      num : record_number (filed_at size l r.place) ≡ n
+      num = sym (rw (en, through_read w.through g))
 
-    pub seek_on : {k : ℕ} → left ≡ suc k → (n ≡ number → ⊥) → {next : ℕ} → next ≡ next_at size l place → Seeking size l count number k next
-    unfolding find_in filed_from
-    seek_on {k} one f e =
-        let fits : next_at size l place ≤ length l = walk_fits w.walk (omega arith) in
-        record { walk = walk_on w.walk k one e; same = w.same ∙ rw (one, num, ne_eqb _ _ f, title_length size l place fits, e) }
+      pub seek_found : n ≡ number → Ok place ≡ find_in size 0 (filed_from size count l 0) number
+      unfolding find_in filed_from
+      seek_found f = sym (rw (w.same, g.one, num, eq-eqb _ _ f, g.placed))
 
-  pub seek_none : left ≤ 0 → Err Record ≡ find_in size 0 (filed_from size count l 0) number
+      pub seek_on : (n ≡ number → ⊥) → Seeking size l count number r'
+      unfolding find_in filed_from
+      seek_on f =
+          let long = title_length size l r.place (through_fits w.through g) in
+          record { through = through_on w.through g; same = w.same ∙ rw (g.one, num, ne_eqb _ _ f, long, through_next w.through g) }
+
+  pub seek_none : r.left ≡ 0 → Err Record ≡ find_in size 0 (filed_from size count l 0) number
   unfolding find_in filed_from
-  seek_none h = let e : left ≡ 0 = omega arith in sym (rw (w.same, e))
+  seek_none e = sym (rw (w.same, e))

@@ -10,7 +10,7 @@ use Rattle.archive_open.specs.declared.Archive.{Archive}
 -- the refusal, or the archive of these bytes, which says that they read
 abbrev pub Opens : Edition → List ℕ → Or Archive → Type 0
 Opens e l (Err r) = decode e l ≡ Err r
-Opens e l (Ok a) = (a.edition ≡ e) × (a.bytes.now ≡ l)
+Opens e l (Ok a) = (a.sized.edition ≡ e) × (a.bytes.now ≡ l)
 
 -- ---- read
 
@@ -29,11 +29,11 @@ held_of {e} {l} fs r count-is trailer-is last-is =
     let m : Reads e l fs = reads e l fs r in
     record { fs = fs; is = r; count_is = count-is ∙ sym m.count; trailer_is = trailer-is ∙ sym m.trailer; last_is = last-is; read = m }
 
-pub holds : (a : Archive) → Held a.edition a.bytes.now a.count a.trailer a.last
+pub holds : (a : Archive) → Held a.sized.edition a.bytes.now a.count a.trailer a.last
 holds a =
-    let fs : List Filed = filed_from a.edition.size a.count a.bytes.now 0 in
-    let m : Reads a.edition a.bytes.now fs = reads a.edition a.bytes.now fs a.read in
-    held_of fs a.read (sym (filed_length a.edition.size a.count a.bytes.now 0)) (a.ends ∙ m.trailer) a.lasts
+    let fs : List Filed = filed_from a.sized.edition.size a.count a.bytes.now 0 in
+    let m : Reads a.sized.edition a.bytes.now fs = reads a.sized.edition a.bytes.now fs a.read in
+    held_of fs a.read (sym (filed_length a.sized.edition.size a.count a.bytes.now 0)) (a.ends ∙ m.trailer) a.lasts
 
 pub held : {e : Edition} {l : List ℕ} (a : Archive) → Opens e l (Ok a) → Held e l a.count a.trailer a.last
 held a o = rw o.0 at (rw o.1 at (holds a))

@@ -19,8 +19,8 @@ pub record Walk (size : ℕ) (l : List ℕ) (left place : ℕ) : Type 0 where
 pub held_walk : (e : Edition) (l : List ℕ) {count t last : ℕ} → Held e l count t last → Walk e.size l count 0
 held_walk e l {count} {t} h = record { trailer = t; mark = t; within = omega (arith, held_fits e l h); run = held_run e l h }
 
-pub walk : (a : Archive) → Walk a.edition.size a.bytes.now a.count 0
-walk a = held_walk a.edition a.bytes.now (holds a)
+pub walk : (a : Archive) → Walk a.sized.edition.size a.bytes.now a.count 0
+walk a = held_walk a.sized.edition a.bytes.now (holds a)
 
 module _ {size : ℕ} {l : List ℕ} {left place : ℕ} (w : Walk size l left place) where
   first : (k : ℕ) → left ≡ suc k → Ran size k l w.trailer place w.mark

@@ -14,20 +14,21 @@ use Rattle.archive_open.specs.Opened.{holds, held_run, held_fits}
 
 -- the places lie in the trailer
 pub fits : (a : Archive) → a.trailer + 2 * a.count + 6 ≡ length a.bytes.now
-fits a = held_fits a.edition a.bytes.now (holds a)
+fits a = held_fits a.sized.edition a.bytes.now (holds a)
 
 -- an index below the count has the place that the trailer tells
 pub placed : (a : Archive) (i : ℕ) →
-    place_in a.edition.size 0 (filed_from a.edition.size a.count a.bytes.now 0) i ≡ need Record (ltb i a.count) (Ok (word2 a.bytes.now (a.trailer + 2 * i)))
+    place_in a.sized.edition.size 0 (filed_from a.sized.edition.size a.count a.bytes.now 0) i
+    ≡ need Record (ltb i a.count) (Ok (word2 a.bytes.now (a.trailer + 2 * i)))
 unfolding need
 placed a i = go (ltb i a.count) refl
   where
     go : (b : Bool) → ltb i a.count ≡ b →
-        place_in a.edition.size 0 (filed_from a.edition.size a.count a.bytes.now 0) i ≡ need Record b (Ok (word2 a.bytes.now (a.trailer + 2 * i)))
+        place_in a.sized.edition.size 0 (filed_from a.sized.edition.size a.count a.bytes.now 0) i ≡ need Record b (Ok (word2 a.bytes.now (a.trailer + 2 * i)))
     go true b = place_at _ _ _ a.trailer 0 a.trailer i (omega (arith, fits a)) (held_run _ _ (holds a)) (ltb-true _ _ b)
     go false b =
         let beyond : a.count ≤ i = ltb-false _ _ b in
-        place_beyond _ 0 (filed_from a.edition.size a.count a.bytes.now 0) i (rw filed_length beyond)
+        place_beyond _ 0 (filed_from a.sized.edition.size a.count a.bytes.now 0) i (rw filed_length beyond)
 
 pub ruleset placing = (fits, placed)
 

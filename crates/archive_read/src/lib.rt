@@ -31,7 +31,8 @@ fn find_in(e: SizedEdition, s: &[u8], number: u32) -> Result<usize, Refusal>
     ensures { result ≡ find_of e.edition s.now number }
 {
     let archive = Archive::open(e, s)?;
-    archive_open::seek(archive.edition.size, archive.bytes, archive.count, number)
+    let size = archive.sized.edition.size;
+    archive_open::seek(size, archive.bytes, archive.count, number)
 }
 
 #[tactic(auto, unfolding(archive_format::specs::Archive::title_part_of), using(crate::proofs::Answers::within))]
@@ -45,15 +46,15 @@ fn title_part_in(e: SizedEdition, s: &[u8], number: u32) -> Result<TitlePart, Re
     })
 }
 
-// How many records an archive holds.
+// How many records an archive holds. This call and the three after it are one line each over the call of any edition, with a definition
+// of its own.
 pub fn count(archive: &[u8]) -> Result<usize, Refusal>
     ensures { result ≡ count_of first_edition archive.now }
 {
     count_in(first_edition(), archive)
 }
 
-// The place of the record with an index from 0; 6 where there is none. This call and the two after it are one line each over the call
-// of any edition, with a definition of its own.
+// The place of the record with an index from 0; 6 where there is none.
 pub fn place(archive: &[u8], i: usize) -> Result<usize, Refusal>
     ensures { result ≡ place_of first_edition archive.now i }
 {

@@ -14,7 +14,7 @@ const CRITICAL_PRODUCT: u64 = 3600000000;
 
 // A run's flow units in the cycle and in its green steps, and the thousandths that arrive on green.
 #[repr(C)]
-#[derive(Clone, Copy)]
+#[derive(Clone, Copy, Default)]
 pub struct ExitFigures {
     pub total: u64,
     pub green: u64,
@@ -28,6 +28,7 @@ fn permille(part: u64, whole: u64) -> u32
     if whole == 0 {
         return 0;
     }
+    // `as`, here and below: a number of 32 bits there, which is known; `try_from` would have a case that cannot be.
     (1000 * part / whole) as u32
 }
 

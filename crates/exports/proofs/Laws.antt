@@ -15,7 +15,8 @@ use Rattle.exports.specs.Exports.{SegmentDischarges, volumes_answer}
 use Rattle.exports.specs.Exports.{value_answer, ArchiveWrites}
 
 -- the discharge call's, in numbers
-pub segment_discharges : (l p : List ℕ) (d : Or (Signalised ℕ)) (p' : List ℕ) (r : VolumesAnswer) → Calls l p d p' → r ≡ volumes_answer d → SegmentDischarges l p r p'
+pub segment_discharges : (l p : List ℕ) (d : Or (Signalised ℕ)) (p' : List ℕ) (r : VolumesAnswer) → Calls l p d p' → r ≡ volumes_answer d
+    → SegmentDischarges l p r p'
 segment_discharges l p d p' r calls e =
     record {
       answer = e ∙ ap volumes_answer calls.answer;

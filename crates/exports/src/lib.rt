@@ -28,7 +28,7 @@ use working_outcome::Working;
 
 // A working's answer: 0 and 15 tell the last sum.
 #[repr(C)]
-#[derive(Clone, Copy)]
+#[derive(Clone, Copy, Default)]
 pub struct WorkAnswer {
     pub number: u32,
     pub rounds: u32,
@@ -52,7 +52,7 @@ pub struct PointWorkAnswer {
 
 // The three entries' discharge volumes in veh/h.
 #[repr(C)]
-#[derive(Clone, Copy)]
+#[derive(Clone, Copy, Default)]
 pub struct VolumesAnswer {
     pub number: u32,
     pub left: u32,
@@ -62,7 +62,7 @@ pub struct VolumesAnswer {
 
 // A count, a place or a length.
 #[repr(C)]
-#[derive(Clone, Copy)]
+#[derive(Clone, Copy, Default)]
 pub struct ValueAnswer {
     pub number: u32,
     pub value: usize,
@@ -70,7 +70,7 @@ pub struct ValueAnswer {
 
 // Where a title stands in its archive.
 #[repr(C)]
-#[derive(Clone, Copy)]
+#[derive(Clone, Copy, Default)]
 pub struct TitleAnswer {
     pub number: u32,
     pub place: usize,
@@ -81,11 +81,6 @@ impl From<Result<Working, Unworked>> for WorkAnswer {
     ghost from_gives = { λ answer told. told ≡ work_answer answer };
 
     fn from(answer: Result<Working, Unworked>) -> WorkAnswer {
-        let none = ExitFigures {
-            total: 0,
-            green: 0,
-            permille: 0,
-        };
         match answer {
             Ok(w) => WorkAnswer {
                 number: 0,
@@ -101,15 +96,8 @@ impl From<Result<Working, Unworked>> for WorkAnswer {
             },
             Err(u) => WorkAnswer {
                 number: u.number(),
-                rounds: 0,
                 sum: u.last_sum(),
-                arrival: 0,
-                blocked: 0,
-                pairs: PairFlows { rows: [[0; 4]; 4] },
-                left: none,
-                through: none,
-                right: none,
-                access: 0,
+                ..WorkAnswer::default()
             },
         }
     }
@@ -127,13 +115,11 @@ impl From<Result<PointWorking, Unworked>> for PointWorkAnswer {
                     blocked,
                 }
             }
-            Err(u) => {
-                let blocked = [0; points::POINT_ROOM];
-                PointWorkAnswer {
-                    work: Err(u).into(),
-                    blocked,
-                }
-            }
+            Err(u) => PointWorkAnswer {
+                work: Err(u).into(),
+                // Tried as a `default`: what remains is that eight zeros, told place by place, are the list of eight zeros.
+                blocked: [0; points::POINT_ROOM],
+            },
         }
     }
 }
@@ -151,9 +137,7 @@ impl From<Result<Signalised<u32>, Refusal>> for VolumesAnswer {
             },
             Err(refusal) => VolumesAnswer {
                 number: refusal.number(),
-                left: 0,
-                through: 0,
-                right: 0,
+                ..VolumesAnswer::default()
             },
         }
     }
@@ -170,7 +154,7 @@ impl From<Result<usize, Refusal>> for ValueAnswer {
             },
             Err(refusal) => ValueAnswer {
                 number: refusal.number(),
-                value: 0,
+                ..ValueAnswer::default()
             },
         }
     }
@@ -188,8 +172,7 @@ impl From<Result<TitlePart, Refusal>> for TitleAnswer {
             },
             Err(refusal) => TitleAnswer {
                 number: refusal.number(),
-                place: 0,
-                length: 0,
+                ..TitleAnswer::default()
             },
         }
     }

@@ -6,7 +6,7 @@ ghost use Rattle.pair_flows.specs.Pairs.{pair_flows, rows_of};
 
 // Flow units of each pair: a row of four exits for each entry.
 #[repr(C)]
-#[derive(Clone, Copy)]
+#[derive(Clone, Copy, Default)]
 pub struct PairFlows {
     pub rows: [[u32; 4]; 4],
 }

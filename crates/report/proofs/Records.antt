@@ -1,5 +1,5 @@
 -- The text of one record, and of the records of an archive one after another.
-use Rattle.std.specs.Prelude.{ℕ, suc, ◌+◌, ◌-◌, ◌*◌, ◌≤◌, ◌<◌, ◌≡◌, List, length, take, drop, Result, Ok, Err}
+use Rattle.std.specs.Prelude.{ℕ, ◌*◌, ◌≡◌, List, length, drop, Result, Ok, Err}
 use Rattle.std.proofs.Common.{arith, ap, sym, ◌∙◌}
 use Rattle.limits.specs.Limits.{most_cycle}
 use Rattle.refusal.specs.declared.Refusal.{Refusal}
@@ -21,10 +21,12 @@ use Rattle.working_outcome.proofs.Figures.{output_long}
 use Rattle.working.specs.Working.{Called, called, Works, call_of}
 use Rattle.working.proofs.Ways.{call_worked}
 use Rattle.archive_format.specs.declared.Edition.{Edition}
-use Rattle.archive_format.specs.Archive.{first_edition, next_at, filed_from}
+use Rattle.archive_format.specs.Archive.{first_edition, filed_from}
 use Rattle.archive_open.specs.declared.Archive.{Archive}
 use Rattle.archive_open.specs.Opened.{Opens, held, held_filed}
-use Rattle.archive_open.specs.Walking.{Walk, walk, walk_on}
+use Rattle.archive_open.specs.declared.records.Records.{Records}
+use Rattle.archive_open.specs.Walking.{Walk, walk}
+use Rattle.archive_open.specs.Records.{IsRecord, Through, through_on, through_next, through_read, through_long}
 use Rattle.report_lines.specs.Lines.{archive_refused_line}
 use Rattle.sheet_page.specs.SheetPage.{RunStands}
 use Rattle.report.specs.declared.Form.{Form}
@@ -71,22 +73,26 @@ module _ (l : List ℕ) {p p' : Profiles} {r : Result Working Unworked} (works :
 -- ---- the records in order
 
 -- the text so far and that of the records left
-pub record Reporting (form : Form) (l : List ℕ) (count : ℕ) (t₀ t : Writer) (left place : ℕ) : Type 0 where
-  pub walk : Walk size l left place
-  pub puts : Appending t₀ (records_text form (filed_from size count l 0)) t (records_text form (filed_from size left l place))
+pub record Reporting (form : Form) (l : List ℕ) (count : ℕ) (t₀ t : Writer) (r : Records) : Type 0 where
+  pub through : Through size l r
+  pub puts : Appending t₀ (records_text form (filed_from size count l 0)) t (records_text form (filed_from size r.left l r.place))
 
-module _ {form : Form} {l : List ℕ} {count : ℕ} {t₀ t : Writer} {i place : ℕ} (r : Reporting form l count t₀ t (count - i) place) where
-  pub report_turn : i < count → {next : ℕ} → next ≡ next_at size l place → {t' : Writer} →
-      Wrote t (segment_text form (take (place + size - place) (drop place l))) t' → Reporting form l count t₀ t' (count - (i + 1)) next
-  unfolding filed_from records_text
-  report_turn more e v =
-      let n : place + size - place ≡ size = omega arith in
-      let one : count - i ≡ suc (count - (i + 1)) = omega arith in
-      record { walk = walk_on r.walk _ one e; puts = appending_turn r.puts v _ (rw (one, n, e)) }
+module _ {form : Form} {l : List ℕ} {count : ℕ} {t₀ t : Writer} {r : Records} (w : Reporting form l count t₀ t r) where
+  module _ {place : ℕ} {b : List ℕ} {r' : Records} (g : IsRecord r place b r') where
+    pub report_long : length b ≡ size
+    report_long = through_long w.through g
 
-  pub report_done : count ≤ i → Wrote t₀ (records_text form (filed_from size count l 0)) t
+    pub report_turn : {t' : Writer} → Wrote t (segment_text form b) t' → Reporting form l count t₀ t' r'
+    unfolding filed_from records_text
+    report_turn v =
+        record {
+          through = through_on w.through g;
+          puts = appending_turn w.puts v _ (rw (g.one, through_read w.through g, through_next w.through g));
+        }
+
+  pub report_done : r.left ≡ 0 → Wrote t₀ (records_text form (filed_from size count l 0)) t
   unfolding filed_from records_text
-  report_done h = let e : count - i ≡ 0 = omega arith in appending_done r.puts (rw e)
+  report_done e = appending_done w.puts (rw e)
 
 -- ---- the archive
 

@@ -8,7 +8,7 @@ ghost use Rattle.report.specs.Report.{archive_text, input_text, records_text, se
 
 use crate::{Form, INPUT_LIMIT};
 use archive_format::first_edition;
-use archive_open::{Archive, next_place};
+use archive_open::{Archive, Records};
 use buffer::Writer;
 use limits::{CYCLE_ROOM, OUTPUT_ROOM};
 use propagation::LentProfiles;
@@ -41,7 +41,7 @@ fn segment_text(form: Form, text: &mut Writer, bytes: &[u8], profiles: &mut Long
     }
 }
 
-// So many records from place 0 on, in order. The profiles are made once for all of them. Its own loop, as each walk over records has.
+// So many records from place 0 on, in order. The profiles are made once for all of them.
 fn records_text(form: Form, text: &mut Writer, archive: &[u8], count: usize)
     requires { Walk size archive.now count 0 }
     ensures { Wrote text.old (records_text form (filed_from size count archive.now 0)) text.new }
@@ -51,11 +51,8 @@ fn records_text(form: Form, text: &mut Writer, archive: &[u8], count: usize)
         first: [0; CYCLE_ROOM],
         second: [0; CYCLE_ROOM],
     };
-    let mut place: usize = 0;
-    for _ in 0..count {
-        let bytes = &archive[place..place + segment::SIZE];
+    for (_, bytes) in Records::of(segment::SIZE, archive, count) {
         segment_text(form, text, bytes, &mut profiles);
-        place = next_place(segment::SIZE, archive, place);
     }
 }
 

@@ -1,5 +1,5 @@
 -- A loop that adds the numbers of a list to a run, the ith in the step where it lands around the cycle: what it keeps at each turn.
-use Rattle.std.specs.Prelude.{ℕ, ◌+◌, ◌-◌, ◌≤◌, ◌<◌, ◌≡◌, List, [], length, get_or}
+use Rattle.std.specs.Prelude.{ℕ, ◌+◌, ◌-◌, ◌≤◌, ◌<◌, ◌≡◌, List, length, get_or}
 use Rattle.signal.specs.Turn.{turn}
 use Rattle.signal.specs.Landing.{added}
 
