@@ -4,7 +4,8 @@ ghost use Rattle.archive_format.specs.Archive.{encode, first_edition};
 
 use crate::{Edition, SizedEdition};
 
-// The first edition: records of 68 bytes, mark "DR". A function, since each use of a constant would have a proof of its own that the size serves.
+// The first edition: records of 68 bytes, mark "DR". A function, since each use of a constant would have a proof of its own that the
+// size serves.
 pub fn first_edition() -> SizedEdition
     ensures { result.edition ≡ first_edition }
 {
