@@ -33,7 +33,8 @@ fn put_record(added: NewRecord, out: &mut Writer)
     ensures { Wrote out.old (record_bytes added.entry.bytes.now added.entry.title.now) out.new }
 {
     out.put(added.bytes);
-    out.put(&[added.title.len() as u8]);
+    // `as`, here and below: a length that fits a byte, a number that fits two; `try_from` would have a case that cannot be.
+    out.put_byte(added.title.len() as u8);
     out.put(added.title);
 }
 

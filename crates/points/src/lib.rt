@@ -30,10 +30,8 @@ pub struct Points {
 fn point_fits(farthest: u32, p: Point) -> bool
     ensures { result ≡ point_fits farthest p }
 {
-    (limits::LEAST_RUNNING <= p.running)
-        & (p.running <= farthest)
-        & (limits::LEAST_HEADWAY <= p.headway)
-        & (p.headway <= limits::MOST_HEADWAY)
+    (limits::LEAST_RUNNING..=farthest).contains(&p.running)
+        & (limits::LEAST_HEADWAY..=limits::MOST_HEADWAY).contains(&p.headway)
 }
 
 // Whether each of the points given does.

@@ -4,4 +4,4 @@ use Rattle.buffer.proofs.Pieces.{◌then◌}
 use Rattle.archive_write.proofs.put_record.Goals as goal
 
 pub returns : goal.returns
-returns c = simp append_assoc at (c.put.ensures then c.put-2.ensures then c.put-3.ensures)
+returns c = simp append_assoc at (c.put.ensures then c.put_byte.ensures then c.put-2.ensures)
