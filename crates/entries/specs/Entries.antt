@@ -3,13 +3,12 @@ use Rattle.std.specs.Prelude.{ℕ, ◌*◌, min, ◌≤◌, ◌<◌, false, ◌�
 use Rattle.limits.specs.Limits.{least_cycle, most_cycle}
 use Rattle.lists.specs.Lists.{sum, number_at}
 use Rattle.runs.specs.Runs.{run_at}
-use Rattle.movements.specs.PerMovement.{Counts}
 use Rattle.movements.specs.Movements.{flow_units}
 use Rattle.signal.specs.Greens.{green_step, in_green}
 use Rattle.segment.specs.declared.Entry.{Entry}
 use Rattle.segment.specs.declared.Segment.{Segment}
 use Rattle.ranges.specs.Ranges.{EntryRanges}
-use Rattle.metering.specs.Metering.{discharge_volume, discharge_volumes}
+use Rattle.metering.specs.Metering.{discharge_volume}
 use Rattle.platoon.specs.Discharge.{carried, green_arrivals, profile_of}
 use Rattle.platoon.specs.Steps.{waits_in}
 
@@ -29,9 +28,8 @@ entry_profiles s p =
     entry_profile s.cycle s.left
     ++ (entry_profile s.cycle s.through ++ (entry_profile s.cycle s.right ++ drop (3 * s.cycle) p))
 
--- the discharge volumes of an accepted segment, and room for its three runs
-pub record ProfilesFit (s : Segment) (o : Counts) (profile : List ℕ) : Type 0 where
-  pub volumes : o ≡ discharge_volumes s
+-- room for the three runs
+pub record ProfilesFit (s : Segment) (profile : List ℕ) : Type 0 where
   pub room : 3 * s.cycle ≤ length profile
 
 -- a profile that has them in front

@@ -4,7 +4,6 @@
 ghost use Rattle.std.specs.Prelude.{◌≡◌};
 ghost use Rattle.entries.specs.Entries.{ProfileFits, ProfilesFit, entry_profile, entry_profiles};
 
-use movements::Counts;
 use ranges::Accepted;
 use segment::Entry;
 
@@ -17,13 +16,14 @@ pub fn fill_profile(c: u32, e: Entry, o: u32, run: &mut [u32])
     platoon::discharge_profile(e.green, e.saturation, e.arriving, o, run);
 }
 
-// The three profiles, from the discharge volumes, to the front of a lent profile: runs of the cycle's length, entries in order.
+// The three profiles to the front of a lent profile: runs of the cycle's length, entries in order.
 #[tactic(auto, unfolding(crate::specs::Entries::entry_profiles, metering::specs::Metering::discharge_volumes))]
-pub fn fill_profiles(accepted: Accepted, o: Counts, profile: &mut [u32])
-    requires { ProfilesFit accepted o profile.old }
+pub fn fill_profiles(accepted: Accepted, profile: &mut [u32])
+    requires { ProfilesFit accepted profile.old }
     ensures { profile.new ≡ entry_profiles accepted profile.old }
 {
     let s = accepted.segment;
+    let o = metering::discharge_volumes(accepted);
     let c = s.cycle as usize;
     let (left, rest) = profile.split_at_mut(c);
     let (through, rest) = rest.split_at_mut(c);

@@ -79,7 +79,6 @@ pub fn fill(accepted: Accepted, points: Points, out: &mut [u32]) -> [u32; points
     }
     let three = 3 * accepted.segment.cycle as usize;
     let mut discharges = [0u32; limits::DISCHARGE_ROOM];
-    let volumes = metering::discharge_volumes(accepted);
-    entries::fill_profiles(accepted, volumes, &mut discharges[..three]);
+    entries::fill_profiles(accepted, &mut discharges[..three]);
     fill_each(accepted, points, &discharges[..three], out)
 }

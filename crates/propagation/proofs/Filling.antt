@@ -7,7 +7,6 @@ use lib.ListN.{length, drop, get_or}
 use lib.Seq.{drop_at}
 use lib.ListN.{length-append, length-drop}
 use Rattle.limits.specs.Limits.{entry_limit}
-use Rattle.movements.specs.PerMovement.{Counts}
 use Rattle.movements.specs.Movements.{flow_units}
 use Rattle.segment.specs.declared.Entry.{Entry}
 use Rattle.segment.specs.declared.Segment.{Segment}
@@ -36,7 +35,7 @@ pub record Filling (s : Segment) (p₀ p : Profiles) (b : ℕ) (r : ℕ → ℕ 
   pub first : drop s.cycle p.first ≡ drop s.cycle p₀.first
   pub second : drop s.cycle p.second ≡ drop s.cycle p₀.second
 
-pub fill_begin : {s : Segment} {rows : List (List ℕ)} {o f g : List ℕ} → {v : Counts} → Ranges s → FillFits s v rows (profiles o f g) → {o' : List ℕ} →
+pub fill_begin : {s : Segment} {rows : List (List ℕ)} {o f g : List ℕ} → Ranges s → FillFits s rows (profiles o f g) → {o' : List ℕ} →
     o' ≡ begun s.cycle (get_or rows 3 []) o → length o' ≡ length o → Filling s (profiles o f g) (profiles o' f g) access_limit (λ j k. pair_flow rows 3 j)
 fill_begin {s} {rows} {o} ranges h e n =
     record {

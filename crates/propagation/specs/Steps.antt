@@ -2,12 +2,11 @@
 use Rattle.std.specs.Prelude.{ℕ, ◌*◌, ◌≤◌, ◌<◌, ◌≡◌, List, [], ◌++◌, length, drop, get_or}
 use Rattle.std.proofs.Common.{arith}
 use Rattle.limits.specs.Limits.{least_cycle, most_cycle, most_running}
-use Rattle.movements.specs.PerMovement.{Counts}
 use Rattle.movements.specs.Movements.{flow_units}
 use Rattle.segment.specs.declared.Entry.{Entry}
 use Rattle.segment.specs.declared.Segment.{Segment}
 use Rattle.ranges.specs.Ranges.{EntryRanges}
-use Rattle.metering.specs.Metering.{discharge_volume, discharge_units, discharge_volumes}
+use Rattle.metering.specs.Metering.{discharge_volume, discharge_units}
 use Rattle.entries.specs.Entries.{entry_profile}
 use Rattle.dispersion.specs.Dispersion.{arrival_time_of, reported}
 use Rattle.arrivals.specs.Arrivals.{run_limit, entry_added}
@@ -59,7 +58,6 @@ pub record RowsFit (s : Segment) (rows : List (List ℕ)) : Type 0 where
   pub right : (j : ℕ) → pair_flow rows 2 j ≤ discharge_units s.cycle s.right
   pub access : (j : ℕ) → pair_flow rows 3 j ≤ flow_units s.access
 
-pub record FillFits (s : Segment) (o : Counts) (rows : List (List ℕ)) (p : Profiles) : Type 0 where
-  pub volumes : o ≡ discharge_volumes s
+pub record FillFits (s : Segment) (rows : List (List ℕ)) (p : Profiles) : Type 0 where
   pub shares : RowsFit s rows
   pub room : Room s.cycle p

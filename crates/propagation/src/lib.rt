@@ -5,7 +5,6 @@ ghost use Rattle.std.specs.Prelude.{◌≡◌};
 ghost use Rattle.propagation.specs.Propagation.{Same, filled_of, held, lent};
 ghost use Rattle.propagation.specs.Steps.{FillEntryFits, FillFits, SpreadFits, entry_step, spread_step};
 
-use movements::Counts;
 use ranges::Accepted;
 use segment::{Entry, Segment};
 
@@ -60,14 +59,15 @@ fn fill_entry(s: Segment, e: Entry, o: u32, row: [u32; 4], profiles: &mut LentPr
     );
 }
 
-// The whole, from the discharge volumes and the pair flows: access first, then the signalised entries in order.
+// The whole, from the pair flows: access first, then the signalised entries in order.
 // The right entry's cycles stay in the work profiles.
-pub fn fill(accepted: Accepted, o: Counts, rows: [[u32; 4]; 4], profiles: &mut LentProfiles)
-    requires { FillFits accepted o rows (held profiles.old) }
+pub fn fill(accepted: Accepted, rows: [[u32; 4]; 4], profiles: &mut LentProfiles)
+    requires { FillFits accepted rows (held profiles.old) }
     ensures same { Same profiles.old profiles.new }
     ensures filled { held profiles.new ≡ filled_of accepted rows (held profiles.old) }
 {
     let s = accepted.segment;
+    let o = metering::discharge_volumes(accepted);
     arrivals::begin(s.cycle as usize, rows[3], profiles.output);
     fill_entry(s, s.left, o.left, rows[0], profiles);
     fill_entry(s, s.through, o.through, rows[1], profiles);

@@ -43,8 +43,8 @@ decided_is s eo ed = ed ∙ rw eo
 -- ---- filling what is decided to work
 
 module _ {s : Segment} {d : Decision} {p : Profiles} (h : Decided s d p) {rows : List (List ℕ)} (er : rows ≡ d.pairs.rows) where
-  pub fill_asks : {o : Counts} → o ≡ discharge_volumes s → FillFits s o rows p
-  fill_asks ev = record { volumes = ev; shares = rw er (rows_fit s d h.works); room = h.room }
+  pub fill_asks : FillFits s rows p
+  fill_asks = record { shares = rw er (rows_fit s d h.works); room = h.room }
 
   pub filled : (p' : Profiles) → p' ≡ filled_of s rows p → Filled s d.pairs.rows p'.output
   unfolding filled_of

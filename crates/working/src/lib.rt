@@ -59,8 +59,7 @@ pub fn fill(accepted: Accepted, decision: Decision, profiles: &mut LentProfiles)
     ensures same { Same profiles.old profiles.new }
     ensures worked { called (Ok result) (held profiles.new) ≡ worked_call accepted decision (held profiles.old) }
 {
-    let volumes = metering::discharge_volumes(accepted);
-    propagation::fill(accepted, volumes, decision.pairs.into(), profiles);
+    propagation::fill(accepted, decision.pairs.into(), profiles);
     figures(accepted, decision, profiles)
 }
 
