@@ -124,6 +124,6 @@ pub fn begin(c: usize, row: [u32; 4], out: &mut [u32])
 {
     for (j, v) in row.iter().enumerate() {
         let at = j * c;
-        runs::fill(&mut out[at..at + c], *v);
+        out[at..at + c].fill(*v);
     }
 }

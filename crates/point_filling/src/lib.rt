@@ -38,7 +38,7 @@ fn fill_point(accepted: Accepted, p: Point, discharges: &[u32], run: &mut [u32])
     let one = s.cycle as usize;
     let two = one + one;
     let three = two + one;
-    runs::fill(run, movements::flow_units(s.access));
+    run.fill(movements::flow_units(s.access));
     pass(p.running, &discharges[0..one], run);
     pass(p.running, &discharges[one..two], run);
     pass(p.running, &discharges[two..three], run);

@@ -9,7 +9,7 @@ pass-requires c =
     let h = rw (← c.accepted.view_is) at c.requires in
     let d = h.discharged in
     let ranges = c.accepted.invariant in
-    let begun = passing_start c.accepted.inside.segment c.flow_units.ensures h.long c.fill.ensures in
+    let begun = passing_start c.accepted.inside.segment c.flow_units.ensures h.long (c.fill.ensures.after (λ y e. e)) in
     passing_fits begun (omega (arith, ranges.access)) ranges ranges.left _ h.time (left_run _ d.entries)
 
 pub pass-requires-2 : goal.pass-requires-2
@@ -17,7 +17,7 @@ pass-requires-2 c =
     let h = rw (← c.accepted.view_is) at c.requires in
     let d = h.discharged in
     let ranges = c.accepted.invariant in
-    let begun = passing_start c.accepted.inside.segment c.flow_units.ensures h.long c.fill.ensures in
+    let begun = passing_start c.accepted.inside.segment c.flow_units.ensures h.long (c.fill.ensures.after (λ y e. e)) in
     let left = passing_entry begun ranges ranges.left c.args.p (left_run _ d.entries) c.pass.ensures in
     passing_fits left (omega (arith, ranges.access)) ranges ranges.through _ h.time (through_run _ d.entries)
 
@@ -26,7 +26,7 @@ pass-requires-3 c =
     let h = rw (← c.accepted.view_is) at c.requires in
     let d = h.discharged in
     let ranges = c.accepted.invariant in
-    let begun = passing_start c.accepted.inside.segment c.flow_units.ensures h.long c.fill.ensures in
+    let begun = passing_start c.accepted.inside.segment c.flow_units.ensures h.long (c.fill.ensures.after (λ y e. e)) in
     let left = passing_entry begun ranges ranges.left c.args.p (left_run _ d.entries) c.pass.ensures in
     let through = passing_entry left ranges ranges.through c.args.p (through_run _ d.entries) c.pass-2.ensures in
     passing_fits through (omega (arith, ranges.access)) ranges ranges.right _ h.time (right_run _ d.entries)
@@ -37,7 +37,7 @@ returns c =
     let h = rw (← c.accepted.view_is) at c.requires in
     let d = h.discharged in
     let ranges = c.accepted.invariant in
-    let begun = passing_start c.accepted.inside.segment c.flow_units.ensures h.long c.fill.ensures in
+    let begun = passing_start c.accepted.inside.segment c.flow_units.ensures h.long (c.fill.ensures.after (λ y e. e)) in
     let left = passing_entry begun ranges ranges.left c.args.p (left_run _ d.entries) c.pass.ensures in
     let through = passing_entry left ranges ranges.through c.args.p (through_run _ d.entries) c.pass-2.ensures in
     let right = passing_entry through ranges ranges.right c.args.p (right_run _ d.entries) c.pass-3.ensures in
