@@ -88,7 +88,7 @@ pub fn discharge_profile(green: Green, saturation: u32, arriving: u32, volume: u
     requires saturation_le_flow_limit { (saturation ≤ flow_limit) × (arriving ≤ most_arriving) × (volume ≤ entry_limit) }
     ensures { run.new ≡ profile_of (length run.old) green saturation arriving volume }
 {
-    runs::fill(run, 0);
+    run.fill(0);
     let cycle = run.len() as u32;
     let queue = queue_of(cycle, saturation, arriving, volume);
     release(Timing { cycle, green }, queue, run);

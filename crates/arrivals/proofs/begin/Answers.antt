@@ -9,7 +9,7 @@ loop-j-preserved c =
     let more = c.loop-j-test.true in
     let room = c.requires in
     let f = c.fill in
-    worked_turn inv more room (search rules) 0 f.new.run f.auto.run (rw (part_length inv more room) at f.ensures)
+    worked_turn inv more room (search rules) 0 f.new.self f.ensures.len (rw (part_length inv more room) at (f.ensures.after (λ y e. e)))
 
 pub returns : goal.returns
 unfolding begun
