@@ -14,7 +14,7 @@ const CRITICAL_PRODUCT: u64 = 3600000000;
 
 // A run's flow units in the cycle and in its green steps, and the thousandths that arrive on green.
 #[repr(C)]
-#[derive(Clone, Copy, Default)]
+#[derive(Clone, Copy, Default, PartialEq)]
 pub struct ExitFigures {
     pub total: u64,
     pub green: u64,

@@ -41,7 +41,8 @@ fn answer_differs(expected: &[u8; 36], answer: Result<PointWorking, Unworked>) -
     }
 }
 
-// Whether a case differs. After the record stand the points, the profiles' lengths, what must be answered, and the profiles after the call.
+// Whether a case differs; none where it ends before all of it. After the record stand the points, the profiles' lengths, what must be
+// answered, and the profiles after the call.
 fn compared(record: &[u8], rest: &[u8]) -> Option<bool> {
     let (points, rest) = rest.split_first_chunk()?;
     let (lengths, rest) = rest.split_first_chunk::<16>()?;
@@ -61,12 +62,7 @@ fn compared(record: &[u8], rest: &[u8]) -> Option<bool> {
     }))
 }
 
-// One that ends before all of that differs.
-fn case_differs(record: &[u8], rest: &[u8]) -> bool {
-    compared(record, rest) != Some(false)
-}
-
 fn main(rt: HostRuntime) -> io::Result<()> {
     let mut body = [0u8; 16384];
-    vectors::run_records(&mut rt.stdin(), &mut rt.stdout(), &mut body, case_differs)
+    vectors::run_records(&mut rt.stdin(), &mut rt.stdout(), &mut body, compared)
 }

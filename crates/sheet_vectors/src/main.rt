@@ -19,7 +19,8 @@ fn answer_differs(expected: &[u8; 12], answer: Result<Working, Unworked>) -> boo
     (octets::word4_at(expected, 0) != number) | vectors::float_differs(expected, 4, sum)
 }
 
-// Whether a case differs. After the record stand the lengths, what must be answered, the page buffer and the profiles after the call.
+// Whether a case differs; none where it ends before all of it, or its page buffer is longer than the longest. After the record stand the
+// lengths, what must be answered, the page buffer and the profiles after the call.
 fn compared(record: &[u8], rest: &[u8]) -> Option<bool> {
     let (lengths, rest) = rest.split_first_chunk::<16>()?;
     let (expected, rest) = rest.split_first_chunk::<12>()?;
@@ -40,12 +41,7 @@ fn compared(record: &[u8], rest: &[u8]) -> Option<bool> {
     }))
 }
 
-// One that ends before all of that differs, and so does a page buffer longer than the longest.
-fn case_differs(record: &[u8], rest: &[u8]) -> bool {
-    compared(record, rest) != Some(false)
-}
-
 fn main(rt: HostRuntime) -> io::Result<()> {
     let mut body = [0u8; 16384];
-    vectors::run_records(&mut rt.stdin(), &mut rt.stdout(), &mut body, case_differs)
+    vectors::run_records(&mut rt.stdin(), &mut rt.stdout(), &mut body, compared)
 }

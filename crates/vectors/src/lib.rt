@@ -127,8 +127,9 @@ pub fn record_of(body: &[u8]) -> Option<(&[u8], &[u8])>
     body[2..].split_at_checked(octets::word2_at(body, 0) as usize)
 }
 
-// The same for bodies that begin with a record behind its length; one that ends within it differs.
-pub fn run_records<R: Read, W: Write, F: Fn(&[u8], &[u8]) -> bool>(
+// The same for bodies that begin with a record behind its length. The comparison says whether what follows differs, or none where it ends
+// before all that it must hold: that differs too, and so does a body that ends within its record.
+pub fn run_records<R: Read, W: Write, F: Fn(&[u8], &[u8]) -> Option<bool>>(
     input: &mut R,
     output: &mut W,
     body: &mut [u8],
@@ -137,9 +138,10 @@ pub fn run_records<R: Read, W: Write, F: Fn(&[u8], &[u8]) -> bool>(
     requires { F.IsAlwaysCallable differs }
     ensures { OnOk result (Told (W.contents output.old) (W.contents output.new)) }
 {
-    run(input, output, body, |body| match record_of(body) {
-        Some((record, rest)) => differs(record, rest),
-        None => true,
+    run(input, output, body, |body| {
+        record_of(body)
+            .and_then(|(record, rest)| differs(record, rest))
+            .unwrap_or(true)
     })
 }
 
@@ -149,6 +151,7 @@ pub fn fill_pattern(run: &mut [u32], first: u32)
     ensures { run.new ≡ pattern first (length run.old) }
 {
     for (i, x) in run.iter_mut().enumerate() {
+        // `as`: a number of 32 bits, which is known, and of 8 in `fill_bytes`; `try_from` would have a case that cannot be.
         *x = first + i as u32;
     }
 }

@@ -9,12 +9,14 @@ use std::io;
 use vectors::Lengths;
 use working_outcome::Working;
 
-fn figures_differ(expected: &[u8; 156], at: usize, exit: ExitFigures) -> bool
+fn figures_at(expected: &[u8; 156], at: usize) -> ExitFigures
     requires { at + 20 ≤ 156 }
 {
-    (octets::word8_at(expected, at) != exit.total)
-        | (octets::word8_at(expected, at + 8) != exit.green)
-        | (octets::word4_at(expected, at + 16) != exit.permille)
+    ExitFigures {
+        total: octets::word8_at(expected, at),
+        green: octets::word8_at(expected, at + 8),
+        permille: octets::word4_at(expected, at + 16),
+    }
 }
 
 fn working_differs(expected: &[u8; 156], w: Working) -> bool {
@@ -22,9 +24,9 @@ fn working_differs(expected: &[u8; 156], w: Working) -> bool {
         | (octets::word4_at(expected, 12) != w.arrival)
         | (octets::word4_at(expected, 16) != w.rounds)
         | vectors::rows_differ(expected, 20, w.pairs.into())
-        | figures_differ(expected, 84, w.left)
-        | figures_differ(expected, 104, w.through)
-        | figures_differ(expected, 124, w.right)
+        | (figures_at(expected, 84) != w.left)
+        | (figures_at(expected, 104) != w.through)
+        | (figures_at(expected, 124) != w.right)
         | (octets::word8_at(expected, 144) != w.access)
         | (octets::word4_at(expected, 152) != w.blocked)
 }
@@ -43,7 +45,8 @@ fn answer_differs(expected: &[u8; 156], answer: Result<Working, Unworked>) -> bo
     }
 }
 
-// Whether a case differs. After the record stand the profiles' lengths, what must be answered, and the profiles after the call.
+// Whether a case differs; none where it ends before all of it. After the record stand the profiles' lengths, what must be answered, and
+// the profiles after the call.
 fn compared(record: &[u8], rest: &[u8]) -> Option<bool> {
     let (lengths, rest) = rest.split_first_chunk::<12>()?;
     let (expected, numbers) = rest.split_first_chunk::<156>()?;
@@ -58,12 +61,7 @@ fn compared(record: &[u8], rest: &[u8]) -> Option<bool> {
     }))
 }
 
-// One that ends before all of that differs.
-fn case_differs(record: &[u8], rest: &[u8]) -> bool {
-    compared(record, rest) != Some(false)
-}
-
 fn main(rt: HostRuntime) -> io::Result<()> {
     let mut body = [0u8; 16384];
-    vectors::run_records(&mut rt.stdin(), &mut rt.stdout(), &mut body, case_differs)
+    vectors::run_records(&mut rt.stdin(), &mut rt.stdout(), &mut body, compared)
 }
