@@ -1,8 +1,11 @@
 -- One entry past a point, over plain variables; and a point's run as a function of its steps while the entries are added.
-use Rattle.std.proofs.Common.{ℕ, ◌+◌, ◌-◌, ◌*◌, ◌≤◌, ◌<◌, arith, ◌≡◌, sym, ◌∙◌, List, ◌++◌, append_assoc, length, take, drop, get_or, replicate, take_at}
+use Rattle.std.proofs.Common.{ℕ, zero, suc, ◌+◌, ◌-◌, ◌*◌, ◌≤◌, ◌<◌, add-one, arith, ◌≡◌, sym, ◌∙◌, List, ◌++◌, append_assoc}
+use Rattle.std.proofs.Common.{length, take, drop, get_or, replicate, length-append, length-drop, take_at, drop_at, drop-drop, length-take-le}
+use Rattle.std.proofs.lemmas.List.{drop-take, take-take}
 use Rattle.std.proofs.Math.Nat.{sub-zero}
 use Rattle.limits.specs.Limits.{most_running}
 use Rattle.lists.specs.Lists.{tab, tab_length, tab_each_le, tab_constant}
+use Rattle.runs.specs.Runs.{run_at}
 use Rattle.movements.specs.Movements.{flow_units}
 use Rattle.signal.specs.Turn.{earlier}
 use Rattle.signal.specs.Landing.{added}
@@ -19,7 +22,7 @@ use Rattle.arrivals.specs.Arrivals.{arrival_limit, run_limit, LandsFit}
 use Rattle.propagation.specs.Propagation.{cycles_before, cycles}
 use Rattle.points.specs.declared.Point.{Point}
 use Rattle.point_flows.specs.PointFlows.{point_arrivals, passes_in, point_flow, point_run}
-use Rattle.point_filling.specs.Steps.{PassFits}
+use Rattle.point_filling.specs.Steps.{PassFits, Discharged}
 
 -- ---- one entry
 
@@ -42,24 +45,6 @@ module _ (running : ℕ) (q x : List ℕ) {ys : List ℕ} (made : ys ≡ held ru
         arrivals = reported_le running arrival_limit q cycles h.small;
         small = h.sums;
       })
-
--- ---- the three discharges, as a point takes them
-
-module _ (s : Segment) {discharges : List ℕ} (h : EntryRuns s discharges) where
-  pub left_run : take (s.cycle - 0) discharges ≡ entry_profile s.cycle s.left
-  left_run = let z : 0 * s.cycle ≡ 0 = omega arith in rw sub-zero (rw z at h.left)
-
-  pub through_run : take (s.cycle + s.cycle - s.cycle) (drop s.cycle discharges) ≡ entry_profile s.cycle s.through
-  through_run =
-      let z : 1 * s.cycle ≡ s.cycle = omega arith in
-      let w : s.cycle + s.cycle - s.cycle ≡ s.cycle = omega arith in
-      rw w (rw z at h.through)
-
-  pub right_run : take (s.cycle + s.cycle + s.cycle - (s.cycle + s.cycle)) (drop (s.cycle + s.cycle) discharges) ≡ entry_profile s.cycle s.right
-  right_run =
-      let z : 2 * s.cycle ≡ s.cycle + s.cycle = omega arith in
-      let w : s.cycle + s.cycle + s.cycle - (s.cycle + s.cycle) ≡ s.cycle = omega arith in
-      rw w (rw z at h.right)
 
 -- ---- a point's run
 
@@ -113,9 +98,118 @@ module _ {s : Segment} {b : ℕ} {r : ℕ → ℕ} {run : List ℕ} (h : Passing
             (omega (arith, h.small step low high, reported_le p.running arrival_limit q cycles (entry_le c e er) (earlier c t step - 1)));
       }
 
--- all three
-pub passing_all : {s : Segment} {b : ℕ} (p : Point) {run : List ℕ} →
-    Passing s b (λ step. flow_units s.access + passes_in s p s.left step + passes_in s p s.through step + passes_in s p s.right step) run →
-    run ≡ point_run s p
-unfolding point_run point_flow
-passing_all p h = h.is
+-- ---- the three entries in turn
+
+-- the three discharges and nothing behind them
+pub record Three (s : Segment) (discharges : List ℕ) : Type 0 where
+  pub entries : EntryRuns s discharges
+  pub long : length discharges ≡ 3 * s.cycle
+
+-- so the front of three runs is
+front_run : (c a m : ℕ) (l : List ℕ) → c ≤ m → take c (drop a (take (a + m) l)) ≡ take c (drop a l)
+front_run c a m l h = rw drop-take (take-take c m (drop a l) h)
+
+pub three_front : {s : Segment} {discharges : List ℕ} → Discharged s discharges → Three s (take (3 * s.cycle) discharges)
+three_front {s} {discharges} d =
+    let c = s.cycle in
+    let after_none : 3 * c ≡ 0 * c + 3 * c = omega arith in
+    let after_one : 3 * c ≡ 1 * c + 2 * c = omega arith in
+    let after_two : 3 * c ≡ 2 * c + c = omega arith in
+    record {
+      entries = record {
+        left = rw after_none (front_run c (0 * c) (3 * c) discharges (omega arith)) ∙ d.entries.left;
+        through = rw after_one (front_run c (1 * c) (2 * c) discharges (omega arith)) ∙ d.entries.through;
+        right = rw after_two (front_run c (2 * c) c discharges (omega arith)) ∙ d.entries.right;
+      };
+      long = length-take-le (3 * c) discharges d.long;
+    }
+
+abbrev pub entry_at : Segment → ℕ → Entry
+entry_at s zero = s.left
+entry_at s (suc zero) = s.through
+entry_at s (suc (suc k)) = s.right
+
+entry_ranges : {s : Segment} → Ranges s → (k : ℕ) → EntryRanges s.cycle (entry_at s k)
+entry_ranges ranges zero = ranges.left
+entry_ranges ranges (suc zero) = ranges.through
+entry_ranges ranges (suc (suc k)) = ranges.right
+
+entry_run : {s : Segment} {discharges : List ℕ} → EntryRuns s discharges → (k : ℕ) → k < 3 →
+    run_at s.cycle k discharges ≡ entry_profile s.cycle (entry_at s k)
+entry_run h zero more = h.left
+entry_run h (suc zero) more = h.through
+entry_run h (suc (suc zero)) more = h.right
+entry_run h (suc (suc (suc k))) more = absurd (omega arith)
+
+-- k of three runs of c numbers are gone: where c numbers are left there is one more, where fewer there is none
+runs_more : (k c : ℕ) → 0 < c → c ≤ 3 * c - k * c → k < 3
+runs_more zero c pos h = omega arith
+runs_more (suc zero) c pos h = omega arith
+runs_more (suc (suc zero)) c pos h = omega arith
+runs_more (suc (suc (suc k))) c pos h = absurd (omega arith)
+
+runs_done : (k c : ℕ) → k ≤ 3 → 3 * c - k * c < c → k ≡ 3
+runs_done zero c few h = absurd (omega arith)
+runs_done (suc zero) c few h = absurd (omega arith)
+runs_done (suc (suc zero)) c few h = absurd (omega arith)
+runs_done (suc (suc (suc k))) c few h = omega arith
+
+-- access and the first k entries
+abbrev pub passed : Segment → Point → ℕ → ℕ → ℕ
+passed s p zero step = flow_units s.access
+passed s p (suc k) step = passed s p k step + passes_in s p (entry_at s k) step
+
+-- k entries have passed; the discharges of the others are left, in runs of so many
+pub record Passed (s : Segment) (p : Point) (discharges : List ℕ) (size : ℕ) (rest run : List ℕ) (k : ℕ) : Type 0 where
+  pub few : k ≤ 3
+  pub cycle : size ≡ s.cycle
+  pub left : rest ≡ drop (k * s.cycle) discharges
+  pub passing : Passing s (flow_units s.access + k * arrival_limit) (passed s p k) run
+
+module _ {s : Segment} {p : Point} {discharges : List ℕ} (d : Three s discharges) where
+  pub passed_start : {size units n : ℕ} {rest run : List ℕ} → size ≡ s.cycle → rest ≡ discharges → units ≡ flow_units s.access → n ≡ s.cycle →
+      run ≡ replicate n units → Passed s p discharges size rest run 0
+  passed_start es er eu en e =
+      let z : 0 * s.cycle ≡ 0 = omega arith in
+      let b : flow_units s.access + 0 * arrival_limit ≡ flow_units s.access = omega arith in
+      record { few = omega arith; cycle = es; left = rw (z, er); passing = rw b (passing_start s eu en e) }
+
+  module _ {size k : ℕ} {rest run : List ℕ} (r : Passed s p discharges size rest run k) where
+    left_length : length rest ≡ 3 * s.cycle - k * s.cycle
+    left_length = rw (r.left, length-drop, d.long)
+
+    module _ (ranges : Ranges s) (next others : List ℕ) (cut : rest ≡ next ++ others) (long : length next ≡ size) where
+      more : k < 3
+      more =
+          let whole : length rest ≡ length next + length others = rw (cut, length-append) in
+          runs_more k s.cycle (omega (arith, ranges.cycle)) (omega (arith, whole, long, r.cycle, left_length))
+
+      next_is : next ≡ entry_profile s.cycle (entry_at s k)
+      next_is = sym (rw (← cut) at (take_at next others s.cycle (long ∙ r.cycle))) ∙ rw r.left (entry_run d.entries k more)
+
+      others_is : others ≡ drop ((k + 1) * s.cycle) discharges
+      others_is =
+          let m : (k + 1) * s.cycle ≡ k * s.cycle + s.cycle = omega arith in
+          sym (rw (← cut) at (drop_at next others s.cycle (long ∙ r.cycle))) ∙ rw (r.left, m) (drop-drop s.cycle (k * s.cycle) discharges)
+
+      pub passed_fits : p.running ≤ most_running → PassFits p.running next run
+      passed_fits time = passing_fits r.passing (omega (arith, more, ranges.access)) ranges (entry_ranges ranges k) _ time next_is
+
+      pub passed_turn : {size' : ℕ} → size' ≡ size → {run' : List ℕ} →
+          run' ≡ added (length run) (arrival_time_of p.running) 1 (reported p.running next cycles) run →
+          Passed s p discharges size' others run' (k + 1)
+      passed_turn es is =
+          let b : flow_units s.access + (k + 1) * arrival_limit ≡ flow_units s.access + k * arrival_limit + arrival_limit = omega arith in
+          record {
+            few = omega (arith, more);
+            cycle = es ∙ r.cycle;
+            left = others_is;
+            passing = rw (b, add-one) (passing_entry r.passing ranges (entry_ranges ranges k) p next_is is);
+          }
+
+    -- with none left all three have passed
+    pub passed_done : length rest < size → run ≡ point_run s p
+    unfolding point_run point_flow
+    passed_done none =
+        let all : k ≡ 3 = runs_done k s.cycle r.few (omega (arith, none, r.cycle, left_length)) in
+        rw all at r.passing.is

@@ -27,8 +27,7 @@ fn pass(running: u32, discharge: &[u32], run: &mut [u32])
     arrivals::add_whole(&arrived[0..c], dispersion::arrival_time(running), run);
 }
 
-// One point: access begins its run, then each signalised entry passes. Its blocked steps, by its own headway. Three calls: a loop over the
-// library's chunks was tried and proves, with sixty lines more of proof, since a turn has to say which of the three entries its chunk is.
+// One point: access begins its run, then each signalised entry's discharge passes. Its blocked steps, by its own headway.
 fn fill_point(accepted: Accepted, p: Point, discharges: &[u32], run: &mut [u32]) -> u32
     requires { PointFits accepted p discharges.now run.old }
     ensures run_after { run.new ≡ point_run accepted p }
@@ -36,12 +35,10 @@ fn fill_point(accepted: Accepted, p: Point, discharges: &[u32], run: &mut [u32])
 {
     let s = accepted.segment;
     let one = s.cycle as usize;
-    let two = one + one;
-    let three = two + one;
     run.fill(movements::flow_units(s.access));
-    pass(p.running, &discharges[0..one], run);
-    pass(p.running, &discharges[one..two], run);
-    pass(p.running, &discharges[two..three], run);
+    for discharge in discharges[..3 * one].chunks_exact(one) {
+        pass(p.running, discharge, run);
+    }
     Run { steps: &run[..] }.blocked_steps(p.headway)
 }
 

@@ -1,45 +1,33 @@
--- After access, and after each entry in turn, the run holds what passed so far (`Passing`); after the right entry, the whole.
-use Rattle.std.proofs.Common.{arith, ◌∙◌}
+-- The run holds what passed so far (`Passed`); with no discharge left, the whole.
+use Rattle.std.proofs.Common.{arith, length-append, ◌∙◌}
 use Rattle.point_flows.specs.PointFlows.{point_blocked}
-use Rattle.point_filling.proofs.Passing.{left_run, through_run, right_run, passing_start, passing_fits, passing_entry, passing_all}
+use Rattle.point_filling.proofs.Passing.{three_front, passed_start, passed_fits, passed_turn, passed_done}
 use Rattle.point_filling.proofs.fill_point.Goals as goal
+
+pub chunks_exact-discharge-items-requires : goal.chunks_exact-discharge-items-requires
+chunks_exact-discharge-items-requires c = omega (arith, c.accepted.invariant.cycle)
+
+pub loop-discharge-init : goal.loop-discharge-init
+loop-discharge-init c =
+    let h = rw (← c.accepted.view_is) at c.requires in
+    let cut = c.chunks_exact-discharge-items.ensures in
+    rw (← c.accepted.view_is, c.into_iter-discharge-iterator.ensures.into_iter_gives)
+    (passed_start (three_front h.discharged) cut.size cut.rest c.flow_units.ensures h.long (c.fill.ensures.after (λ y e. e)))
 
 pub pass-requires : goal.pass-requires
 pass-requires c =
-    let h = rw (← c.accepted.view_is) at c.requires in
-    let d = h.discharged in
-    let ranges = c.accepted.invariant in
-    let begun = passing_start c.accepted.inside.segment c.flow_units.ensures h.long (c.fill.ensures.after (λ y e. e)) in
-    passing_fits begun (omega (arith, ranges.access)) ranges ranges.left _ h.time (left_run _ d.entries)
+    let s = c.in-Some.ensures.steps in
+    let ranges = rw c.accepted.view_is at c.accepted.invariant in
+    passed_fits (three_front c.requires.discharged) c.loop-discharge.invariant ranges _ _ s.1.0 s.1.1 c.requires.time
 
-pub pass-requires-2 : goal.pass-requires-2
-pass-requires-2 c =
-    let h = rw (← c.accepted.view_is) at c.requires in
-    let d = h.discharged in
-    let ranges = c.accepted.invariant in
-    let begun = passing_start c.accepted.inside.segment c.flow_units.ensures h.long (c.fill.ensures.after (λ y e. e)) in
-    let left = passing_entry begun ranges ranges.left c.args.p (left_run _ d.entries) c.pass.ensures in
-    passing_fits left (omega (arith, ranges.access)) ranges ranges.through _ h.time (through_run _ d.entries)
-
-pub pass-requires-3 : goal.pass-requires-3
-pass-requires-3 c =
-    let h = rw (← c.accepted.view_is) at c.requires in
-    let d = h.discharged in
-    let ranges = c.accepted.invariant in
-    let begun = passing_start c.accepted.inside.segment c.flow_units.ensures h.long (c.fill.ensures.after (λ y e. e)) in
-    let left = passing_entry begun ranges ranges.left c.args.p (left_run _ d.entries) c.pass.ensures in
-    let through = passing_entry left ranges ranges.through c.args.p (through_run _ d.entries) c.pass-2.ensures in
-    passing_fits through (omega (arith, ranges.access)) ranges ranges.right _ h.time (right_run _ d.entries)
+pub loop-discharge-preserved : goal.loop-discharge-preserved
+loop-discharge-preserved c =
+    let s = c.in-Some.ensures.steps in
+    let ranges = rw c.accepted.view_is at c.accepted.invariant in
+    rw length-append (passed_turn (three_front c.requires.discharged) c.loop-discharge.invariant ranges _ _ s.1.0 s.1.1 s.0 c.pass.ensures)
 
 pub returns : goal.returns
 unfolding point_blocked
 returns c =
-    let h = rw (← c.accepted.view_is) at c.requires in
-    let d = h.discharged in
-    let ranges = c.accepted.invariant in
-    let begun = passing_start c.accepted.inside.segment c.flow_units.ensures h.long (c.fill.ensures.after (λ y e. e)) in
-    let left = passing_entry begun ranges ranges.left c.args.p (left_run _ d.entries) c.pass.ensures in
-    let through = passing_entry left ranges ranges.through c.args.p (through_run _ d.entries) c.pass-2.ensures in
-    let right = passing_entry through ranges ranges.right c.args.p (right_run _ d.entries) c.pass-3.ensures in
-    let run = passing_all c.args.p right in
-    rw (← c.accepted.view_is) (record { run_after = run; value = c.blocked_steps.ensures ∙ rw run })
+    let run = passed_done (three_front c.requires.discharged) c.loop-discharge.invariant c.in-None.ensures.steps.1.0 in
+    record { run_after = run; value = c.blocked_steps.ensures ∙ rw run }
