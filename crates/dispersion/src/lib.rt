@@ -22,7 +22,8 @@ pub struct PlatoonState {
 // A segment before its first cycle.
 const EMPTY: PlatoonState = PlatoonState { level: 0, carry: 0 };
 
-// The profiles that take cycles by turns: the first alone, or the first and the second.
+// The profiles that take cycles by turns: the first alone, or the first and the second. A flag beside a second that may be empty: tried as
+// an `Option<&mut [u32]>`, what remains is what the second then holds, which is told only in a `match` that would do nothing else.
 #[derive(Clone, Copy)]
 enum Turns {
     One,
