@@ -2,8 +2,7 @@
 ghost use Rattle.std.specs.Prelude.{◌≡◌, length};
 ghost use Rattle.buffer.specs.Buffer.{Wrote};
 ghost use Rattle.segment.specs.Layout.{size};
-ghost use Rattle.archive_format.specs.Archive.{filed_from};
-ghost use Rattle.archive_open.specs.Walking.{Walk};
+ghost use Rattle.archive_format.specs.Archive.{filed_from, first_edition};
 ghost use Rattle.report.specs.Report.{archive_text, input_text, records_text, segment_text};
 
 use crate::{Form, INPUT_LIMIT};
@@ -41,17 +40,17 @@ fn segment_text(form: Form, text: &mut Writer, bytes: &[u8], profiles: &mut Long
     }
 }
 
-// So many records from place 0 on, in order. The profiles are made once for all of them.
-fn records_text(form: Form, text: &mut Writer, archive: &[u8], count: usize)
-    requires { Walk size archive.now count 0 }
-    ensures { Wrote text.old (records_text form (filed_from size count archive.now 0)) text.new }
+// The records of an archive of the first edition, in order. The profiles are made once for all of them.
+fn records_text(form: Form, text: &mut Writer, archive: Archive)
+    requires { archive.sized.edition ≡ first_edition }
+    ensures { Wrote text.old (records_text form (filed_from size archive.entry.count archive.entry.bytes.now 0)) text.new }
 {
     let mut profiles = LongestProfiles {
         output: [0; OUTPUT_ROOM],
         first: [0; CYCLE_ROOM],
         second: [0; CYCLE_ROOM],
     };
-    for (_, bytes) in Records::of(segment::SIZE, archive, count) {
+    for (_, bytes) in Records::of(segment::SIZE, archive.bytes, archive.count) {
         segment_text(form, text, bytes, &mut profiles);
     }
 }
@@ -60,7 +59,7 @@ fn archive_text(form: Form, text: &mut Writer, archive: &[u8])
     ensures { Wrote text.old (archive_text form archive.now) text.new }
 {
     match Archive::open(first_edition(), archive) {
-        Ok(read) => records_text(form, text, archive, read.count),
+        Ok(read) => records_text(form, text, read),
         Err(refusal) => report_lines::archive_refused_line(text, refusal.number()),
     }
 }
