@@ -12,7 +12,7 @@ use Rattle.buffer.proofs.Pieces.{appending_start, appending_turn, appending_done
 use Rattle.segment.specs.declared.Segment.{Segment}
 use Rattle.segment.specs.Layout.{size, cycle_at}
 use Rattle.segment.specs.Segment.{segment_of}
-use Rattle.propagation.specs.Propagation.{Profiles, profiles, filled_of}
+use Rattle.propagation.specs.Propagation.{Profiles, longest, filled_of}
 use Rattle.propagation.specs.Steps.{Room}
 use Rattle.balance_decision.specs.declared.Unworked.{Unworked}
 use Rattle.working_outcome.specs.declared.Working.{Working}
@@ -30,15 +30,10 @@ use Rattle.archive_open.specs.Records.{IsRecord, Through, through_on, through_ne
 use Rattle.report_lines.specs.Lines.{archive_refused_line}
 use Rattle.sheet_page.specs.SheetPage.{RunStands}
 use Rattle.report.specs.declared.Form.{Form}
-use Rattle.report.specs.Report.{longest, text_in, segment_text, records_text, archive_text}
+use Rattle.report.specs.Report.{text_in, segment_text, records_text, archive_text}
 use Rattle.report.specs.Working.{same_text, longest_room}
 
 -- ---- one record
-
--- profiles of those lengths fit every record's cycle
-pub longest_fit : {output first second : List ℕ} → length output ≡ 4 * most_cycle → length first ≡ most_cycle → length second ≡ most_cycle →
-    Room most_cycle (profiles output first second)
-longest_fit o f s = record { output = omega (arith, o); first = omega (arith, f); second = omega (arith, s) }
 
 module _ (l : List ℕ) {p p' : Profiles} {r : Result Working Unworked} (works : Works l p r p') {cycle : ℕ} (es : cycle ≡ word2 l cycle_at) where
   module _ (room : Room most_cycle p) where

@@ -9,17 +9,8 @@ use crate::{Form, INPUT_LIMIT};
 use archive_format::first_edition;
 use archive_open::{Archive, Records};
 use buffer::Writer;
-use limits::{CYCLE_ROOM, OUTPUT_ROOM};
-use propagation::LentProfiles;
+use propagation::LongestProfiles;
 use refusal::Refusal;
-
-// Profiles that every record's cycle fits.
-#[derive(Drop)]
-struct LongestProfiles {
-    output: [u32; OUTPUT_ROOM],
-    first: [u32; CYCLE_ROOM],
-    second: [u32; CYCLE_ROOM],
-}
 
 fn segment_text(form: Form, text: &mut Writer, bytes: &[u8], profiles: &mut LongestProfiles)
     requires { length bytes.now ≡ size }
@@ -27,11 +18,7 @@ fn segment_text(form: Form, text: &mut Writer, bytes: &[u8], profiles: &mut Long
 {
     let number = octets::word4_at(bytes, segment::NUMBER_AT);
     let cycle = octets::word2_at(bytes, segment::CYCLE_AT);
-    let mut lent = LentProfiles {
-        output: &mut profiles.output,
-        first: &mut profiles.first,
-        second: &mut profiles.second,
-    };
+    let mut lent = profiles.lend();
     let answer = working::work(bytes, &mut lent);
     // A match: the form is a value that the calls and the programs pass.
     match form {
@@ -45,11 +32,7 @@ fn records_text(form: Form, text: &mut Writer, archive: Archive)
     requires { archive.sized.edition ≡ first_edition }
     ensures { Wrote text.old (records_text form (filed_from size archive.entry.count archive.entry.bytes.now 0)) text.new }
 {
-    let mut profiles = LongestProfiles {
-        output: [0; OUTPUT_ROOM],
-        first: [0; CYCLE_ROOM],
-        second: [0; CYCLE_ROOM],
-    };
+    let mut profiles = LongestProfiles::new();
     for (_, bytes) in Records::of(segment::SIZE, archive.bytes, archive.count) {
         segment_text(form, text, bytes, &mut profiles);
     }
