@@ -38,7 +38,8 @@ impl<'a> Writer<'a> {
         }
     }
 
-    // So many times a byte.
+    // So many times a byte. The body of `put` but for the fill: a closure that writes the part would have to be proved to write it
+    // whole, and both would be longer.
     #[tactic(auto, using(crate::proofs::Copied::past, crate::proofs::Copied::filled))]
     pub fn put_run(&mut self, byte: u8, count: usize)
         ensures { Wrote self.old (replicate count byte) self.new }

@@ -6,7 +6,7 @@ ghost use Rattle.std.specs.Prelude.{IfOk};
 use archive_format::TitlePart;
 use balance_decision::Unworked;
 use points::{Point, Points};
-use propagation::LentProfiles;
+use propagation::LongestProfiles;
 use refusal::Refusal;
 use std::io;
 
@@ -126,14 +126,8 @@ fn discharge_of(rt: &impl Print, record: &[u8]) -> io::Result<()> {
 }
 
 fn work(rt: &impl Print, record: &[u8]) -> io::Result<()> {
-    let mut output = [0u32; limits::OUTPUT_ROOM];
-    let mut first = [0u32; limits::CYCLE_ROOM];
-    let mut second = [0u32; limits::CYCLE_ROOM];
-    let mut profiles = LentProfiles {
-        output: &mut output,
-        first: &mut first,
-        second: &mut second,
-    };
+    let mut longest = LongestProfiles::new();
+    let mut profiles = longest.lend();
     let answer = working::work(record, &mut profiles);
     tell(
         rt,
@@ -145,14 +139,8 @@ fn work(rt: &impl Print, record: &[u8]) -> io::Result<()> {
 // The first ten lines of a sheet.
 fn print_sheet(rt: &impl Print, record: &[u8]) -> io::Result<()> {
     let mut page = [0u8; page::PAGE_ROOM];
-    let mut output = [0u32; limits::OUTPUT_ROOM];
-    let mut first = [0u32; limits::CYCLE_ROOM];
-    let mut second = [0u32; limits::CYCLE_ROOM];
-    let mut profiles = LentProfiles {
-        output: &mut output,
-        first: &mut first,
-        second: &mut second,
-    };
+    let mut longest = LongestProfiles::new();
+    let mut profiles = longest.lend();
     let answer = sheet::sheet(record, &mut page, &mut profiles);
     tell(rt, answer, |_| rt.write_all(&page[..730]))
 }
@@ -180,15 +168,9 @@ fn tell_blocked(rt: &impl Print, blocked: [u32; points::POINT_ROOM]) -> io::Resu
 }
 
 fn work_points(rt: &impl Print, record: &[u8]) -> io::Result<()> {
-    let mut output = [0u32; limits::OUTPUT_ROOM];
+    let mut longest = LongestProfiles::new();
+    let mut profiles = longest.lend();
     let mut passing = [0u32; 2 * limits::CYCLE_ROOM];
-    let mut first = [0u32; limits::CYCLE_ROOM];
-    let mut second = [0u32; limits::CYCLE_ROOM];
-    let mut profiles = LentProfiles {
-        output: &mut output,
-        first: &mut first,
-        second: &mut second,
-    };
     let answer = point_working::work_points(record, two_points(), &mut profiles, &mut passing);
     tell(rt, answer, |w| tell_blocked(rt, w.blocked))
 }

@@ -1,5 +1,6 @@
 -- The profiles of a segment whose pair flows are given: each entry's discharge dispersed, shared among the exits, and landed.
-use Rattle.std.specs.Prelude.{ℕ, suc, ◌+◌, ◌*◌, ◌≡◌, List, [], ◌++◌, drop, get_or}
+use Rattle.std.specs.Prelude.{ℕ, suc, ◌+◌, ◌*◌, ◌≡◌, List, [], ◌++◌, drop, get_or, replicate}
+use Rattle.limits.specs.Limits.{most_cycle}
 use Rattle.signal.specs.Landing.{landing}
 use Rattle.segment.specs.declared.Entry.{Entry}
 use Rattle.segment.specs.declared.Segment.{Segment}
@@ -26,6 +27,10 @@ lent output first second = profiles output first second
 -- what lent profiles hold
 abbrev pub held : LentProfiles → Profiles
 held p = lent p.output.now p.first.now p.second.now
+
+-- profiles that every record's cycle fits
+unfoldable pub longest : Profiles
+longest = profiles (replicate (4 * most_cycle) 0) (replicate most_cycle 0) (replicate most_cycle 0)
 
 -- a call leaves its profiles those that it was lent, whatever it writes to them
 pub record Same (p p' : LentProfiles) : Type 0 where

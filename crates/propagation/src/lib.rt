@@ -2,9 +2,11 @@
 #![tactic(auto)]
 
 ghost use Rattle.std.specs.Prelude.{◌≡◌};
-ghost use Rattle.propagation.specs.Propagation.{Same, filled_of, held, lent};
-ghost use Rattle.propagation.specs.Steps.{FillEntryFits, FillFits, SpreadFits, entry_step, spread_step};
+ghost use Rattle.limits.specs.Limits.{most_cycle};
+ghost use Rattle.propagation.specs.Propagation.{Same, filled_of, held, lent, longest, profiles};
+ghost use Rattle.propagation.specs.Steps.{FillEntryFits, FillFits, Room, SpreadFits, entry_step, spread_step};
 
+use limits::{CYCLE_ROOM, OUTPUT_ROOM};
 use ranges::Accepted;
 use segment::{Entry, Segment};
 
@@ -14,6 +16,43 @@ pub struct LentProfiles<'a> {
     pub output: &'a mut [u32],
     pub first: &'a mut [u32],
     pub second: &'a mut [u32],
+}
+
+// Profiles that every record's cycle fits, for a caller that has none of its own.
+#[derive(Drop)]
+pub struct LongestProfiles {
+    pub output: [u32; OUTPUT_ROOM],
+    pub first: [u32; CYCLE_ROOM],
+    pub second: [u32; CYCLE_ROOM],
+}
+
+impl LongestProfiles {
+    // All zeros.
+    #[tactic(auto, unfolding(crate::specs::Propagation::longest))]
+    pub fn new() -> LongestProfiles
+        ensures { profiles result.output result.first result.second ≡ longest }
+    {
+        LongestProfiles {
+            output: [0; OUTPUT_ROOM],
+            first: [0; CYCLE_ROOM],
+            second: [0; CYCLE_ROOM],
+        }
+    }
+
+    // The three as they stand, lent. Each by itself first: written within the struct, the borrow's rules do not cover it.
+    pub fn lend(&mut self) -> LentProfiles<'_>
+        ensures held { held result ≡ profiles self.old.output self.old.first self.old.second }
+        ensures room { Room most_cycle (held result) }
+    {
+        let output = &mut self.output;
+        let first = &mut self.first;
+        let second = &mut self.second;
+        LentProfiles {
+            output,
+            first,
+            second,
+        }
+    }
 }
 
 // Cycles worked from an empty segment; the last is reported.
@@ -46,7 +85,7 @@ fn fill_entry(s: Segment, e: Entry, o: u32, row: [u32; 4], profiles: &mut LentPr
     ensures filled { held profiles.new ≡ entry_step s.running s.cycle e row (held profiles.old) }
 {
     let c = s.cycle as usize;
-    let mut discharge = [0u32; limits::CYCLE_ROOM];
+    let mut discharge = [0u32; CYCLE_ROOM];
     entries::fill_profile(s.cycle, e, o, &mut discharge[0..c]);
     spread(
         s.running,

@@ -8,11 +8,11 @@ use Rattle.octets.specs.Octets.{word2, word4}
 use Rattle.buffer.specs.declared.Writer.{Writer}
 use Rattle.buffer.specs.Buffer.{Wrote}
 use Rattle.buffer.specs.Pieces.{Appending}
-use Rattle.buffer.proofs.Pieces.{appending_turn, appending_done}
+use Rattle.buffer.proofs.Pieces.{appending_start, appending_turn, appending_done}
 use Rattle.segment.specs.declared.Segment.{Segment}
 use Rattle.segment.specs.Layout.{size, cycle_at}
 use Rattle.segment.specs.Segment.{segment_of}
-use Rattle.propagation.specs.Propagation.{Profiles, profiles, filled_of}
+use Rattle.propagation.specs.Propagation.{Profiles, longest, filled_of}
 use Rattle.propagation.specs.Steps.{Room}
 use Rattle.balance_decision.specs.declared.Unworked.{Unworked}
 use Rattle.working_outcome.specs.declared.Working.{Working}
@@ -30,15 +30,10 @@ use Rattle.archive_open.specs.Records.{IsRecord, Through, through_on, through_ne
 use Rattle.report_lines.specs.Lines.{archive_refused_line}
 use Rattle.sheet_page.specs.SheetPage.{RunStands}
 use Rattle.report.specs.declared.Form.{Form}
-use Rattle.report.specs.Report.{longest, text_in, segment_text, records_text, archive_text}
+use Rattle.report.specs.Report.{text_in, segment_text, records_text, archive_text}
 use Rattle.report.specs.Working.{same_text, longest_room}
 
 -- ---- one record
-
--- profiles of those lengths fit every record's cycle
-pub longest_fit : {output first second : List ℕ} → length output ≡ 4 * most_cycle → length first ≡ most_cycle → length second ≡ most_cycle →
-    Room most_cycle (profiles output first second)
-longest_fit o f s = record { output = omega (arith, o); first = omega (arith, f); second = omega (arith, s) }
 
 module _ (l : List ℕ) {p p' : Profiles} {r : Result Working Unworked} (works : Works l p r p') {cycle : ℕ} (es : cycle ≡ word2 l cycle_at) where
   module _ (room : Room most_cycle p) where
@@ -77,6 +72,19 @@ pub record Reporting (form : Form) (l : List ℕ) (count : ℕ) (t₀ t : Writer
   pub through : Through size l r
   pub puts : Appending t₀ (records_text form (filed_from size count l 0)) t (records_text form (filed_from size r.left l r.place))
 
+-- the records of an archive of the first edition, from the first of them on
+module _ (a : Archive) (first : a.sized.edition ≡ first_edition) where
+  pub walked : Walk size a.bytes.now a.count 0
+  walked = rw first at (walk a)
+
+  pub report_start : (form : Form) (t : Writer) {r : Records} → r.size ≡ size → r.bytes.now ≡ a.bytes.now → r.left ≡ a.count → r.place ≡ 0 →
+      Reporting form a.bytes.now a.count t t r
+  report_start form t es eb el ep =
+      record {
+        through = record { sized = es; bytes = eb; walk = rw (es, eb, el, ep) walked };
+        puts = rw (el, ep) (appending_start t _);
+      }
+
 module _ {form : Form} {l : List ℕ} {count : ℕ} {t₀ t : Writer} {r : Records} (w : Reporting form l count t₀ t r) where
   module _ {place : ℕ} {b : List ℕ} {r' : Records} (g : IsRecord r place b r') where
     pub report_long : length b ≡ size
@@ -102,10 +110,6 @@ module _ {e : Edition} (first : e ≡ first_edition) (form : Form) (l : List ℕ
   archive_refused r o v = rw (rw first at o) v
 
   pub archive_read : (a : Archive) → Opens e l (Ok a) →
-      Wrote t (records_text form (filed_from size a.count l 0)) t' → Wrote t (archive_text form l) t'
+      Wrote t (records_text form (filed_from size a.count a.bytes.now 0)) t' → Wrote t (archive_text form l) t'
   unfolding archive_text
-  archive_read a o v = rw (rw first at (held_filed e l (held a o))) v
-
--- it is walked from its first record
-pub walked : {e : Edition} → e ≡ first_edition → {l : List ℕ} (a : Archive) → Opens e l (Ok a) → Walk size l a.count 0
-walked first a o = rw (o.0 ∙ first) at (rw o.1 at (walk a))
+  archive_read a o v = rw (rw first at (held_filed e l (held a o))) (rw o.1 at v)

@@ -11,6 +11,7 @@ use Rattle.buffer.proofs.Pieces.{wrote_fits}
 use Rattle.segment.specs.Layout.{number_at}
 use Rattle.segment.specs.Segment.{segment_of}
 use Rattle.working.specs.Working.{call_of}
+use Rattle.propagation.specs.Propagation.{longest}
 use Rattle.working.proofs.Ways.{call_number}
 use Rattle.archive_format.specs.Archive.{record_limit, Filed, next_at, filed_from, count_at, decode, first_edition, Writes}
 use Rattle.archive_format.specs.Reading.{reads}
@@ -22,7 +23,7 @@ use Rattle.sheet_page.proofs.Pages.{record_long}
 use Rattle.sheet.specs.Sized.{number_small, called_sized}
 use Rattle.report.specs.declared.Form.{Form}
 use Rattle.report.specs.declared.Form.TheVariants.{Lines, Sheet}
-use Rattle.report.specs.Report.{longest, segment_text, records_text, read_text, archive_text, input_limit, input_text, text_room, text_of, report_of, sheets_of}
+use Rattle.report.specs.Report.{segment_text, records_text, read_text, archive_text, input_limit, input_text, text_room, text_of, report_of, sheets_of}
 use Rattle.report.specs.Whole.{record_room, Bytes, Text}
 
 segment_text_lem : (form : Form) (bytes : List ℕ) → Bytes bytes → length (segment_text form bytes) ≤ record_room form

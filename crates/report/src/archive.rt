@@ -2,25 +2,15 @@
 ghost use Rattle.std.specs.Prelude.{◌≡◌, length};
 ghost use Rattle.buffer.specs.Buffer.{Wrote};
 ghost use Rattle.segment.specs.Layout.{size};
-ghost use Rattle.archive_format.specs.Archive.{filed_from};
-ghost use Rattle.archive_open.specs.Walking.{Walk};
+ghost use Rattle.archive_format.specs.Archive.{filed_from, first_edition};
 ghost use Rattle.report.specs.Report.{archive_text, input_text, records_text, segment_text};
 
 use crate::{Form, INPUT_LIMIT};
 use archive_format::first_edition;
 use archive_open::{Archive, Records};
 use buffer::Writer;
-use limits::{CYCLE_ROOM, OUTPUT_ROOM};
-use propagation::LentProfiles;
+use propagation::LongestProfiles;
 use refusal::Refusal;
-
-// Profiles that every record's cycle fits.
-#[derive(Drop)]
-struct LongestProfiles {
-    output: [u32; OUTPUT_ROOM],
-    first: [u32; CYCLE_ROOM],
-    second: [u32; CYCLE_ROOM],
-}
 
 fn segment_text(form: Form, text: &mut Writer, bytes: &[u8], profiles: &mut LongestProfiles)
     requires { length bytes.now ≡ size }
@@ -28,11 +18,7 @@ fn segment_text(form: Form, text: &mut Writer, bytes: &[u8], profiles: &mut Long
 {
     let number = octets::word4_at(bytes, segment::NUMBER_AT);
     let cycle = octets::word2_at(bytes, segment::CYCLE_AT);
-    let mut lent = LentProfiles {
-        output: &mut profiles.output,
-        first: &mut profiles.first,
-        second: &mut profiles.second,
-    };
+    let mut lent = profiles.lend();
     let answer = working::work(bytes, &mut lent);
     // A match: the form is a value that the calls and the programs pass.
     match form {
@@ -41,17 +27,13 @@ fn segment_text(form: Form, text: &mut Writer, bytes: &[u8], profiles: &mut Long
     }
 }
 
-// So many records from place 0 on, in order. The profiles are made once for all of them.
-fn records_text(form: Form, text: &mut Writer, archive: &[u8], count: usize)
-    requires { Walk size archive.now count 0 }
-    ensures { Wrote text.old (records_text form (filed_from size count archive.now 0)) text.new }
+// The records of an archive of the first edition, in order. The profiles are made once for all of them.
+fn records_text(form: Form, text: &mut Writer, archive: Archive)
+    requires { archive.sized.edition ≡ first_edition }
+    ensures { Wrote text.old (records_text form (filed_from size archive.entry.count archive.entry.bytes.now 0)) text.new }
 {
-    let mut profiles = LongestProfiles {
-        output: [0; OUTPUT_ROOM],
-        first: [0; CYCLE_ROOM],
-        second: [0; CYCLE_ROOM],
-    };
-    for (_, bytes) in Records::of(segment::SIZE, archive, count) {
+    let mut profiles = LongestProfiles::new();
+    for (_, bytes) in Records::of(segment::SIZE, archive.bytes, archive.count) {
         segment_text(form, text, bytes, &mut profiles);
     }
 }
@@ -60,7 +42,7 @@ fn archive_text(form: Form, text: &mut Writer, archive: &[u8])
     ensures { Wrote text.old (archive_text form archive.now) text.new }
 {
     match Archive::open(first_edition(), archive) {
-        Ok(read) => records_text(form, text, archive, read.count),
+        Ok(read) => records_text(form, text, read),
         Err(refusal) => report_lines::archive_refused_line(text, refusal.number()),
     }
 }

@@ -10,7 +10,9 @@ use buffer::Writer;
 use report_lines::{access_line, blocked_line, exit_line, record_line, refused_line};
 use working_outcome::Working;
 
-// The exits are three calls: a loop over pairs of label and figures is longer, and the access exit has its total only.
+// The report's line for each exit, three calls: a loop over pairs of label and figures is longer, and the access exit has its total only.
+// In sheet_page the same three call the page's line: one function over both would take the line as a closure, with a clause of what it
+// writes.
 fn worked_text(text: &mut Writer, number: u32, cycle: u32, w: Working)
     ensures { Wrote text.old (worked_text number cycle w) text.new }
 {

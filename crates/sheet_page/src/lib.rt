@@ -47,7 +47,7 @@ fn exit_line(text: &mut Writer, label: &[u8], f: ExitFigures)
     line(text, |text| exit_words(text, label, f));
 }
 
-// A line of numbers in columns.
+// A line of numbers in columns. Width and unit stay two plain numbers: a struct of both is taken apart by each definition of columns.
 fn columns_line(text: &mut Writer, width: usize, unit: u32, numbers: &[u32])
     requires { 0 < unit }
     ensures { Wrote text.old (line (columns width unit numbers.now)) text.new }
@@ -64,7 +64,8 @@ fn pair_lines(text: &mut Writer, rows: [[u32; 4]; 4])
     }
 }
 
-// Three calls: a loop over pairs of label and figures is longer.
+// The page's line for each exit, three calls: a loop over pairs of label and figures is longer. In report_record the same three call the
+// report's line: one function over both would take the line as a closure, with a clause of what it writes.
 fn exit_lines(text: &mut Writer, w: Working)
     ensures { Wrote text.old (lines (exit_lines w)) text.new }
 {

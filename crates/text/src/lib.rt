@@ -36,7 +36,8 @@ pub fn append_column(text: &mut Writer, width: usize, n: u64)
     text.put(digits);
 }
 
-// Numbers one after another, each in a column of its own, in whole units.
+// Numbers one after another, each in a column of its own, in whole units. Width and unit stay two plain numbers: `append_column` takes
+// the width alone, and each definition takes them apart.
 pub fn append_columns(text: &mut Writer, width: usize, unit: u32, numbers: &[u32])
     requires { 0 < unit }
     ensures { Wrote text.old (columns width unit numbers.now) text.new }

@@ -15,13 +15,20 @@ use Rattle.accuracy.specs.Accuracy.{Accurate}
 use Rattle.working_outcome.specs.declared.Working.{Working}
 use Rattle.working_outcome.specs.Answer.{worked_of}
 
--- lent profiles have room for a record's cycle
-abbrev pub fits : Profiles → Segment → Bool
-fits p s = leb (4 * s.cycle) (length p.output) && leb s.cycle (length p.first) && leb s.cycle (length p.second)
+-- profiles of three lengths have room for a record's cycle
+abbrev pub lengths_fit : (output first second : ℕ) → Segment → Bool
+lengths_fit output first second s = leb (4 * s.cycle) output && leb s.cycle first && leb s.cycle second
 
--- the places record and lent profiles
+-- lent profiles have room for it
+abbrev pub fits : Profiles → Segment → Bool
+fits p = lengths_fit (length p.output) (length p.first) (length p.second)
+
+-- the places record and lent profiles, of which the lengths alone tell
+abbrev pub accept_lengths_of : List ℕ → (output first second : ℕ) → Or Segment
+accept_lengths_of l output first second = accept_with l (λ s. test ProfileRoom (lengths_fit output first second s) ∷ [])
+
 abbrev pub accept_of : List ℕ → Profiles → Or Segment
-accept_of l p = accept_with l (λ s. test ProfileRoom (fits p s) ∷ [])
+accept_of l p = accept_lengths_of l (length p.output) (length p.first) (length p.second)
 
 -- the place volumes: the sixteen pair flows, or 13, 14, 15
 unfoldable pub decision_for : Segment → Result Decision Unworked

@@ -4,7 +4,7 @@
 ghost use Rattle.std.specs.Prelude.{◌≡◌};
 ghost use Rattle.propagation.specs.Propagation.{Same, held};
 ghost use Rattle.propagation.specs.Steps.{Room};
-ghost use Rattle.working.specs.Working.{Works, accept_of, by_decision, called, decision_for, fits, worked_call};
+ghost use Rattle.working.specs.Working.{Works, accept_lengths_of, accept_of, by_decision, called, decision_for, fits, lengths_fit, worked_call};
 ghost use Rattle.working.specs.Decided.{Decided};
 ghost use Rattle.working_outcome.specs.Answer.{worked_of};
 ghost use Rattle.working_outcome.specs.Filled.{Filled};
@@ -16,24 +16,54 @@ use refusal::{Refusal, need};
 use segment::Segment;
 use working_outcome::Working;
 
-// Whether the profiles have room for the record's cycle.
+// Whether profiles of these lengths have room for the record's cycle.
+fn lengths_fit(s: Segment, output: usize, first: usize, second: usize) -> bool
+    ensures { result ≡ lengths_fit output first second s }
+{
+    let c = u64::from(s.cycle);
+    (4 * c <= output as u64) & (c <= first as u64) & (c <= second as u64)
+}
+
+// Whether the lent profiles have room for it.
 pub fn fits(s: Segment, profiles: &LentProfiles) -> bool
     ensures { result ≡ fits (held profiles.now) s }
 {
-    let c = u64::from(s.cycle);
-    (4 * c <= profiles.output.len() as u64)
-        & (c <= profiles.first.len() as u64)
-        & (c <= profiles.second.len() as u64)
+    lengths_fit(
+        s,
+        profiles.output.len(),
+        profiles.first.len(),
+        profiles.second.len(),
+    )
 }
 
-// The refusals of the record and of the lent profiles' lengths.
+// The refusals of the record and of the profiles' lengths, which alone are asked for: a caller need not hold the profiles yet.
 #[tactic(auto, unfolding(validation::specs::Accepting::accept_with, refusal::specs::Refusal::need))]
+pub fn accept_lengths(
+    bytes: &[u8],
+    output: usize,
+    first: usize,
+    second: usize,
+) -> Result<Accepted, Refusal>
+    ensures { result ≡ accept_lengths_of bytes.now output first second }
+{
+    let accepted = validation::check(bytes)?;
+    need(
+        Refusal::ProfileRoom,
+        lengths_fit(accepted.segment, output, first, second),
+    )?;
+    Ok(accepted)
+}
+
+// The same of lent profiles.
 pub fn accept(bytes: &[u8], profiles: &LentProfiles) -> Result<Accepted, Refusal>
     ensures { result ≡ accept_of bytes.now (held profiles.now) }
 {
-    let accepted = validation::check(bytes)?;
-    need(Refusal::ProfileRoom, fits(accepted.segment, profiles))?;
-    Ok(accepted)
+    accept_lengths(
+        bytes,
+        profiles.output.len(),
+        profiles.first.len(),
+        profiles.second.len(),
+    )
 }
 
 // What the volumes of an accepted record decide: 13, 14, 15, or its pair flows. Nothing is written.

@@ -31,23 +31,15 @@ pub fn worked(accepted: Accepted, d: Decision, output: &[u32]) -> Working
     ensures { result ≡ worked_of accepted d }
 {
     let s = accepted.segment;
-    // Cut by place: chunks would come one by one as options, each with a case that cannot be.
-    let one = s.cycle as usize;
-    let two = one + one;
-    let three = two + one;
-    let four = three + one;
-    let left = Run {
-        steps: &output[0..one],
-    };
-    let through = Run {
-        steps: &output[one..two],
-    };
-    let right = Run {
-        steps: &output[two..three],
-    };
-    let access = Run {
-        steps: &output[three..four],
-    };
+    let c = s.cycle as usize;
+    let (left, rest) = output.split_at(c);
+    let (through, rest) = rest.split_at(c);
+    let (right, rest) = rest.split_at(c);
+    let (access, _) = rest.split_at(c);
+    let left = Run { steps: left };
+    let through = Run { steps: through };
+    let right = Run { steps: right };
+    let access = Run { steps: access };
     Working {
         sum: d.sum,
         arrival: dispersion::arrival_time(s.running),

@@ -3,4 +3,4 @@ use Rattle.report.proofs.Records.{Reporting}
 use Rattle.report.proofs.archive.records_text.Given as goal
 
 abbrev pub invariant-loop-bytes : goal.invariant-loop-bytes
-invariant-loop-bytes l = Reporting l.form l.archive l.count l.fn.text l.text l.bytes-iterator
+invariant-loop-bytes l = Reporting l.form l.archive.bytes.now l.archive.count l.fn.text l.text l.bytes-iterator
