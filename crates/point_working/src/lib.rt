@@ -36,7 +36,12 @@ fn accept(
     need(Refusal::PointCount, points.count <= points::MOST_POINTS)?;
     need(Refusal::PointRange, points::all_fit(s.running, points))?;
     let runs = u64::from(s.cycle) * u64::from(points.count);
-    let fits = working::fits(s, profiles) & (runs <= passing as u64);
+    let fits = working::fits(
+        s,
+        profiles.output.len(),
+        profiles.first.len(),
+        profiles.second.len(),
+    ) & (runs <= passing as u64);
     need(Refusal::ProfileRoom, fits)?;
     Ok(accepted)
 }

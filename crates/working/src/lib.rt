@@ -4,7 +4,7 @@
 ghost use Rattle.std.specs.Prelude.{◌≡◌};
 ghost use Rattle.propagation.specs.Propagation.{Same, held};
 ghost use Rattle.propagation.specs.Steps.{Room};
-ghost use Rattle.working.specs.Working.{Works, accept_lengths_of, accept_of, by_decision, called, decision_for, fits, lengths_fit, worked_call};
+ghost use Rattle.working.specs.Working.{Works, accept_lengths_of, accept_of, by_decision, called, decision_for, lengths_fit, worked_call};
 ghost use Rattle.working.specs.Decided.{Decided};
 ghost use Rattle.working_outcome.specs.Answer.{worked_of};
 ghost use Rattle.working_outcome.specs.Filled.{Filled};
@@ -17,23 +17,11 @@ use segment::Segment;
 use working_outcome::Working;
 
 // Whether profiles of these lengths have room for the record's cycle.
-fn lengths_fit(s: Segment, output: usize, first: usize, second: usize) -> bool
+pub fn fits(s: Segment, output: usize, first: usize, second: usize) -> bool
     ensures { result ≡ lengths_fit output first second s }
 {
     let c = u64::from(s.cycle);
     (4 * c <= output as u64) & (c <= first as u64) & (c <= second as u64)
-}
-
-// Whether the lent profiles have room for it.
-pub fn fits(s: Segment, profiles: &LentProfiles) -> bool
-    ensures { result ≡ fits (held profiles.now) s }
-{
-    lengths_fit(
-        s,
-        profiles.output.len(),
-        profiles.first.len(),
-        profiles.second.len(),
-    )
 }
 
 // The refusals of the record and of the profiles' lengths, which alone are asked for: a caller need not hold the profiles yet.
@@ -49,7 +37,7 @@ pub fn accept_lengths(
     let accepted = validation::check(bytes)?;
     need(
         Refusal::ProfileRoom,
-        lengths_fit(accepted.segment, output, first, second),
+        fits(accepted.segment, output, first, second),
     )?;
     Ok(accepted)
 }
