@@ -4,7 +4,8 @@
 ghost use Rattle.std.specs.Prelude.{◌≡◌};
 ghost use Rattle.propagation.specs.Propagation.{Same, held};
 ghost use Rattle.propagation.specs.Steps.{Room};
-ghost use Rattle.working.specs.Working.{Works, accept_lengths_of, accept_of, by_decision, called, decision_for, fits, lengths_fit, worked_call};
+ghost use Rattle.working.specs.Working.{Works, accept_lengths_of, accept_of, fits, lengths_fit};
+ghost use Rattle.working.specs.Working.{by_decision, called, decision_for, worked_call};
 ghost use Rattle.working.specs.Decided.{Decided};
 ghost use Rattle.working_outcome.specs.Answer.{worked_of};
 ghost use Rattle.working_outcome.specs.Filled.{Filled};
