@@ -62,7 +62,7 @@ module _ (l : List ℕ) (bytes : (i : ℕ) → get_or l i 0 < 256) where
       let b = call_worked l p w e in
       let s = b.segment in
       let fits : SheetFits (word4 l number_at) (segment_of l).cycle (worked_of s b.decision)
-          (run_at (segment_of l).cycle 1 (call_of l p).after.output) =
+      (run_at (segment_of l).cycle 1 (call_of l p).after.output) =
       rw (b.is, ← b.accepted.is) (sheet_sized s b.accepted.ranges b.decision b.works p (word4 l number_at) number_small) in
       subst (λ (v : Working). SheetFits (word4 l number_at) (segment_of l).cycle v (run_at (segment_of l).cycle 1 (call_of l p).after.output))
       (sym b.answer) fits

@@ -17,7 +17,7 @@ pub check_numbers : (l : List ℕ) (r : Refusal) → check_of l ≡ Err r → (6
 unfolding check_of
 check_numbers l r e =
     let k = both (leb 6 (number r)) (leb (number r) 12)
-        (refused_number (λ m holds. leb 6 m && leb m 12) (record_tests l (segment_of l)) (segment_of l) r refl e) in
+    (refused_number (λ m holds. leb 6 m && leb m 12) (record_tests l (segment_of l)) (segment_of l) r refl e) in
     (leb-true 6 (number r) k.0, leb-true (number r) 12 k.1)
 
 module _ (l : List ℕ) (own : Segment → List Test) where
