@@ -104,8 +104,8 @@ pub fn add_whole(arrived: &[u32], t: u32, run: &mut [u32])
     add_parts(arrived, Whole, t, run);
 }
 
-// One entry: to each of the four runs its pair's arrivals are added. Runs are cut by place here and below: tried here as a `zip` with
-// `chunks_exact_mut`, what remains is what the runs then hold, of which the library tells only the length.
+// One entry: to each of the four runs its pair's arrivals are added. Runs are cut by place: tried as a `zip` with `chunks_exact_mut`, what
+// remains is what the runs then hold, of which the library tells only the length.
 pub fn add_entry(arrived: &[u32], row: [u32; 4], w: u32, t: u32, out: &mut [u32])
     requires { EntryFits w t row arrived.now out.old }
     ensures { out.new ≡ entry_added (length arrived.now) t w arrived.now row out.old }
@@ -117,7 +117,8 @@ pub fn add_entry(arrived: &[u32], row: [u32; 4], w: u32, t: u32, out: &mut [u32]
     }
 }
 
-// Access: each of the four runs of c begins with its exit's number in every step.
+// Access: each of the four runs of c begins with its exit's number in every step. By place too: c may be 0, which the library's chunks
+// ask that it is not.
 pub fn begin(c: usize, row: [u32; 4], out: &mut [u32])
     requires { 4 * c ≤ length out.old }
     ensures { out.new ≡ begun c row out.old }

@@ -28,7 +28,7 @@ fn write(accepted: Accepted, profile: &mut [u32]) -> Signalised<u32>
 {
     entries::fill_profiles(accepted, profile);
     let o = metering::discharge_volumes(accepted);
-    // By hand, since the access entry's volume is metered too, and not answered.
+    // By hand, since the access entry's volume is metered too, and not answered; metered once more, as three divisions.
     Signalised {
         left: o.left,
         through: o.through,

@@ -170,6 +170,8 @@ fn cycles_needed(
 
 // So many cycles from an empty segment: the first, third, .. into the first profile, the second, fourth, .. into the second.
 // They are lent apart, as paper 01 has them: `last_cycle` keeps a part of one, which could not be lent from a struct of both.
+// The running time, here and below, is a plain number with a clause and no type: a record's and a point's are tested by refusals of their
+// own, and a type would be made at every call and taken apart by each definition.
 #[tactic(auto, using(crate::specs::Arrivals::divisor_pos))]
 pub fn alternate(
     running: u32,

@@ -39,7 +39,8 @@ impl LongestProfiles {
         }
     }
 
-    // The three as they stand, lent. Each by itself first: written within the struct, the borrow's rules do not cover it.
+    // The three as they stand, lent. Each by itself first: written within the struct that is handed back, the borrow's rules do not
+    // cover it.
     pub fn lend(&mut self) -> LentProfiles<'_>
         ensures held { held result ≡ profiles self.old.output self.old.first self.old.second }
         ensures room { Room most_cycle (held result) }
