@@ -89,7 +89,7 @@ impl<'a> Run<'a> {
     {
         self.steps
             .iter()
-            .filter(|flow| is_blocked(**flow, headway))
-            .count() as u32
+            .map(|flow| u32::from(is_blocked(*flow, headway)))
+            .sum()
     }
 }
