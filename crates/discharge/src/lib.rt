@@ -26,9 +26,8 @@ fn write(accepted: Accepted, profile: &mut [u32]) -> Signalised<u32>
     ensures value { result ≡ volumes_of accepted }
     ensures profile_after { profile.new ≡ entry_profiles accepted profile.old }
 {
-    entries::fill_profiles(accepted, profile);
-    let o = metering::discharge_volumes(accepted);
-    // By hand, since the access entry's volume is metered too, and not answered; metered once more, as three divisions.
+    let o = entries::fill_profiles(accepted, profile);
+    // By hand, since the access entry's volume is metered too, and not answered.
     Signalised {
         left: o.left,
         through: o.through,

@@ -2,8 +2,10 @@
 #![tactic(auto)]
 
 ghost use Rattle.std.specs.Prelude.{◌≡◌};
+ghost use Rattle.metering.specs.Metering.{discharge_volumes};
 ghost use Rattle.entries.specs.Entries.{ProfileFits, ProfilesFit, entry_profile, entry_profiles};
 
+use movements::Counts;
 use ranges::Accepted;
 use segment::Entry;
 
@@ -16,11 +18,12 @@ pub fn fill_profile(c: u32, e: Entry, o: u32, run: &mut [u32])
     platoon::discharge_profile(e.green, e.saturation, e.arriving, o, run);
 }
 
-// The three profiles to the front of a lent profile: runs of the cycle's length, entries in order.
+// The three profiles to the front of a lent profile: runs of the cycle's length, entries in order. Their discharge volumes are answered.
 #[tactic(auto, unfolding(crate::specs::Entries::entry_profiles, metering::specs::Metering::discharge_volumes))]
-pub fn fill_profiles(accepted: Accepted, profile: &mut [u32])
+pub fn fill_profiles(accepted: Accepted, profile: &mut [u32]) -> Counts
     requires { ProfilesFit accepted profile.old }
-    ensures { profile.new ≡ entry_profiles accepted profile.old }
+    ensures value { result ≡ discharge_volumes accepted }
+    ensures profile_after { profile.new ≡ entry_profiles accepted profile.old }
 {
     let s = accepted.segment;
     let o = metering::discharge_volumes(accepted);
@@ -30,4 +33,5 @@ pub fn fill_profiles(accepted: Accepted, profile: &mut [u32])
     fill_profile(s.cycle, s.left, o.left, left);
     fill_profile(s.cycle, s.through, o.through, through);
     fill_profile(s.cycle, s.right, o.right, &mut rest[..c]);
+    o
 }

@@ -40,7 +40,8 @@ impl LongestProfiles {
     }
 
     // The three as they stand, lent. Each by itself first: written within the struct that is handed back, the borrow's rules do not
-    // cover it.
+    // cover it. What the arrays hold once the loan is over no clause can say: the language has them for one reference that is handed back,
+    // and for two of a slice. So what a call wrote is read behind the loan.
     pub fn lend(&mut self) -> LentProfiles<'_>
         ensures held { held result ≡ profiles self.old.output self.old.first self.old.second }
         ensures room { Room most_cycle (held result) }

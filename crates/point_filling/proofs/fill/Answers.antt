@@ -14,4 +14,4 @@ pub fill_each-requires : goal.fill_each-requires
 fill_each-requires c =
     let long = c.fill_profiles.auto.profile ∙ length-take-le _ _ (omega (arith, c.accepted.invariant.cycle)) in
     rw (← c.accepted.view_is)
-    (discharging _ _ long (rw (← c.accepted.view_is) at c.requires) _ (rw (← c.accepted.view_is) at c.fill_profiles.ensures))
+    (discharging _ _ long (rw (← c.accepted.view_is) at c.requires) _ (rw (← c.accepted.view_is) at c.fill_profiles.ensures.profile_after))
