@@ -6,7 +6,6 @@ use Rattle.std.proofs.Common.{arith, sym}
 use Rattle.refusal.specs.declared.Refusal.TheVariants.{NoVolume, Unserved}
 use Rattle.refusal.specs.Refusal.{need, ok_refused}
 use Rattle.movements.specs.PerMovement.{Counts, Seeds}
-use Rattle.movements.specs.Movements.{flow_units}
 use Rattle.balance_flows.specs.Flows.{FlowTable}
 use Rattle.balance.specs.declared.Settling.{Settling}
 use Rattle.balance.specs.declared.Settling.TheVariants as settling
@@ -49,9 +48,9 @@ module _ (o : Counts) where
   pub from_cells : (exits : Counts) (s : Seeds) (d : Decision) → decision_of o exits s ≡ Ok d → FromCells d
   from_cells exits s d e = (of_settling exits s d e).0
 
-  -- so each entry's row adds to 1000·O
+  -- so each entry's row adds to O
   pub shared_adds : (exits : Counts) (s : Seeds) (d : Decision) → decision_of o exits s ≡ Ok d →
-      map sum d.pairs.rows ≡ map flow_units (o.left ∷ o.through ∷ o.right ∷ o.access ∷ [])
+      map sum d.pairs.rows ≡ o.left ∷ o.through ∷ o.right ∷ o.access ∷ []
   shared_adds exits s d e = let f = from_cells exits s d e in rw f.rows (rows_add f.cells o)
 
   -- no more rounds than the limit

@@ -1,10 +1,7 @@
 // The sixteen pair flows of given discharge, exit volumes and seeds, or why there are none.
-// A lower layer's crate: its functions ask that no entry discharges more than 6000 veh/h, by a clause and no type: to the refusals
-// and the settling the same volumes are plain counts.
 #![tactic(auto)]
 
 ghost use Rattle.std.specs.Prelude.{◌≡◌};
-ghost use Rattle.balance_pairs.specs.Pairs.{WithinLimit};
 ghost use Rattle.balance_decision.specs.declared.Unworked.TheVariants.{Refused};
 ghost use Rattle.balance_decision.specs.Unworked.{last_sum, unworked_number};
 ghost use Rattle.balance_decision.specs.Decision.{decision_of, settled_to};
@@ -61,7 +58,6 @@ impl Unworked {
 
 #[tactic(auto, unfolding(crate::specs::Decision::settled_to))]
 fn settled_to(o: Counts, b: Balance) -> Result<Decision, Unworked>
-    requires { WithinLimit o }
     ensures { result ≡ settled_to o b }
 {
     let settling = b.settling;
@@ -75,11 +71,9 @@ fn settled_to(o: Counts, b: Balance) -> Result<Decision, Unworked>
     }
 }
 
-// The refusals in their order, then the settling and its pair flows. The volumes' limit is asked here and where pair flows are made, not
-// held by a type: the refusals and the settling read the same volumes as plain counts.
+// The refusals in their order, then the settling and its pair flows.
 #[tactic(auto, unfolding(crate::specs::Decision::decision_of, refusal::specs::Refusal::need))]
 pub fn decide(o: Counts, exits: Counts, seeds: Seeds) -> Result<Decision, Unworked>
-    requires { WithinLimit o }
     ensures { result ≡ decision_of o exits seeds }
 {
     need(Refusal::NoVolume, !balance_refusals::no_volume(o, exits))?;

@@ -1,7 +1,7 @@
 -- Four 64-bit floats, one for each movement. Each operation rounds once; sums run left, through, right, access.
-use Rattle.std.specs.Prelude.{Bool, cond, ◌&&◌, Float}
+use Rattle.std.specs.Prelude.{Bool, cond, ◌&&◌, pos, ◌≡◌, refl, Float}
 use Rattle.std.specs.Float.{binary64}
-use Rattle.std.specs.Float.Ieee.{of_bits, add, mul, div, eq}
+use Rattle.std.specs.Float.Ieee.{of_bits, of_int, add, mul, div, eq}
 use Rattle.std.specs.Float.Ieee.Scale.{finite}
 use Rattle.movements.specs.declared.PerMovement.{PerMovement}
 
@@ -14,6 +14,14 @@ FlowTable = PerMovement Flows
 
 abbrev pub zero64 : Float
 zero64 = of_bits binary64 0
+
+-- the flow units of one vehicle an hour in a step
+abbrev pub thousand : Float
+thousand = of_bits binary64 0x408f_4000_0000_0000
+
+pub thousand_is : thousand ≡ of_int binary64 (pos 1000)
+unfolding of_bits of_int
+thousand_is = refl
 
 abbrev pub plus : Float → Float → Float
 plus x y = add binary64 x y

@@ -1,10 +1,8 @@
 // The pair flows of each entry: what its discharge sends to each exit.
-// A lower layer's crate: `pair_rows` asks that no entry discharges more than 6000 veh/h.
-// `WithinLimit` is a clause and no type of its own: to the refusals and the settling the same volumes are plain counts.
 #![tactic(auto)]
 
 ghost use Rattle.std.specs.Prelude.{◌≡◌, ◌≤◌};
-ghost use Rattle.balance_pairs.specs.Pairs.{WithinLimit, cell_units, pair_row, pair_rows};
+ghost use Rattle.balance_pairs.specs.Pairs.{cell_units, pair_row, pair_rows};
 
 use balance_flows::{FlowTable, Flows};
 use movements::Counts;
@@ -28,17 +26,15 @@ fn pair_row(cells: Flows, all: u32) -> [u32; 4]
     [left, after_right - access, right, access]
 }
 
-// The sixteen numbers as paper 01 has them, a row for each entry. Four calls: `zip_with` takes a function of every volume, and the flow
-// units are asked to be of one within its limit.
+// The sixteen numbers as paper 01 has them, a row for each entry, of what it discharges.
 #[tactic(auto, unfolding(crate::specs::Pairs::pair_rows))]
 pub fn pair_rows(cells: FlowTable, o: Counts) -> [[u32; 4]; 4]
-    requires { WithinLimit o }
     ensures { result ≡ pair_rows cells o }
 {
     [
-        pair_row(cells.left, movements::flow_units(o.left)),
-        pair_row(cells.through, movements::flow_units(o.through)),
-        pair_row(cells.right, movements::flow_units(o.right)),
-        pair_row(cells.access, movements::flow_units(o.access)),
+        pair_row(cells.left, o.left),
+        pair_row(cells.through, o.through),
+        pair_row(cells.right, o.right),
+        pair_row(cells.access, o.access),
     ]
 }

@@ -1,14 +1,15 @@
--- Whole volumes and seeds as floats: item 2 of "Metering and shares".
+-- Discharges, exit volumes and seeds as floats of veh/h: item 2 of "Metering and shares".
 use Rattle.std.specs.Prelude.{ℕ, pos, Float, ◌≡◌, refl}
 use Rattle.std.specs.Float.{binary64}
 use Rattle.std.specs.Float.Ieee.{of_bits, of_int}
 use Rattle.movements.specs.PerMovement.{Counts, Seeds}
-use Rattle.balance_flows.specs.Flows.{Flows, FlowTable, times, over, flows_of, total}
+use Rattle.balance_flows.specs.Flows.{Flows, FlowTable, thousand, times, over, flows_of, total}
 
--- O as a float; an exit volume as a float
+-- O in veh/h: the thousandths divided once by 1000
 abbrev pub discharge_float : ℕ → Float
-discharge_float n = of_int binary64 (pos n)
+discharge_float n = over (of_int binary64 (pos n)) thousand
 
+-- an exit volume
 abbrev pub exit_float : ℕ → Float
 exit_float n = of_int binary64 (pos n)
 

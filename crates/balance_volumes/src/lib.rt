@@ -1,4 +1,4 @@
-// Whole volumes and seeds as 64-bit floats, and the exits' volumes adjusted to what is discharged.
+// Discharges, exit volumes and seeds as 64-bit floats of veh/h, and the exits' volumes adjusted to what is discharged.
 #![tactic(auto)]
 
 ghost use Rattle.std.specs.Prelude.{◌≡◌};
@@ -7,12 +7,12 @@ ghost use Rattle.balance_volumes.specs.Volumes.{discharge_floats, exit_floats, p
 use balance_flows::{FlowTable, Flows};
 use movements::{Counts, Seeds};
 
-// Two public functions of one line each: a discharge and an exit volume have each a definition that one may change alone.
+// A discharge comes in thousandths of veh/h.
 #[tactic(auto, unfolding(crate::specs::Volumes::discharge_floats))]
 pub fn discharge_floats(o: Counts) -> Flows
     ensures { result ≡ discharge_floats o }
 {
-    o.map(f64::from)
+    o.map(|volume| f64::from(volume) / 1000.0)
 }
 
 #[tactic(auto, unfolding(crate::specs::Volumes::exit_floats))]
