@@ -61,7 +61,7 @@ green_sum t all (suc n) rate h enough =
     omega (arith, serves_all all (suc n) rate (suc n) 1 (t - all) (omega arith) (omega arith) (omega arith) (omega arith) (omega arith))
 
 -- the profile of an entry adds to T: its green serves the discharge volume, since that is no more than the capacity
-pub profile_sum : (c : ℕ) (green : Green) (saturation p o : ℕ) → 0 < c → p ≤ most_arriving → o * c ≤ saturation * green.steps →
+pub profile_sum : (c : ℕ) (green : Green) (saturation p o : ℕ) → 0 < c → p ≤ most_arriving → o * c ≤ flow_units saturation * green.steps →
     sum (profile_of c green saturation p o) ≡ carried c o
 unfolding profile_of green_flows queue_of landed carried
 profile_sum c green saturation p o pos part serves =

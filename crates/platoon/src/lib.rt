@@ -3,6 +3,7 @@
 
 ghost use Rattle.std.specs.Prelude.{◌≡◌, ◌+◌, ◌*◌, ◌/◌, ◌≤◌, ◌<◌, length, replicate};
 ghost use Rattle.limits.specs.Limits.{entry_limit, flow_limit, most_arriving, step_bound};
+ghost use Rattle.movements.specs.Movements.{flow_units};
 ghost use Rattle.signal.specs.Greens.{GreenFits};
 ghost use Rattle.signal.specs.Landing.{added};
 ghost use Rattle.platoon.specs.Discharge.{cycle_bound, green_flows, profile_of, queue_of, served_of};
@@ -66,14 +67,14 @@ fn release(timing: Timing, queue: Queue, run: &mut [u32])
     }
 }
 
-// The queue of a cycle of c steps at a discharge volume: what does not arrive on green waits when green starts. Three numbers stand apart
+// The queue of a cycle of c steps at a discharge volume, in thousandths of veh/h: what does not arrive on green waits when green starts. Three numbers stand apart
 // here and below: an entry gives two, metering the volume, and a struct would be built for one call and taken apart by each definition.
 #[tactic(auto, unfolding(crate::specs::Discharge::queue_of, crate::specs::Discharge::carried, crate::specs::Discharge::green_arrivals))]
 fn queue_of(c: u32, saturation: u32, arriving: u32, volume: u32) -> Queue
-    requires { (c < step_bound) × (saturation ≤ flow_limit) × (arriving ≤ most_arriving) × (volume ≤ entry_limit) }
+    requires { (c < step_bound) × (saturation ≤ flow_limit) × (arriving ≤ most_arriving) × (volume ≤ flow_units entry_limit) }
     ensures { result ≡ queue_of c saturation arriving volume }
 {
-    let all = u64::from(flow_units(volume)) * u64::from(c);
+    let all = u64::from(volume) * u64::from(c);
     let on_green = all * u64::from(arriving) / 1000;
     Queue {
         waiting: all - on_green,
@@ -85,7 +86,7 @@ fn queue_of(c: u32, saturation: u32, arriving: u32, volume: u32) -> Queue
 // Writes an entry's discharge profile over a run of the cycle's length.
 pub fn discharge_profile(green: Green, saturation: u32, arriving: u32, volume: u32, run: &mut [u32])
     requires run_len_bound { (length run.old < step_bound) × GreenFits (length run.old) green }
-    requires saturation_le_flow_limit { (saturation ≤ flow_limit) × (arriving ≤ most_arriving) × (volume ≤ entry_limit) }
+    requires saturation_le_flow_limit { (saturation ≤ flow_limit) × (arriving ≤ most_arriving) × (volume ≤ flow_units entry_limit) }
     ensures { run.new ≡ profile_of (length run.old) green saturation arriving volume }
 {
     run.fill(0);

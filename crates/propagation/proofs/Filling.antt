@@ -11,7 +11,7 @@ use Rattle.movements.specs.Movements.{flow_units}
 use Rattle.segment.specs.declared.Entry.{Entry}
 use Rattle.segment.specs.declared.Segment.{Segment}
 use Rattle.ranges.specs.Ranges.{Ranges, EntryRanges}
-use Rattle.metering.specs.Metering.{discharge_volume, discharge_units}
+use Rattle.metering.specs.Metering.{discharge_volume}
 use Rattle.entries.specs.Entries.{entry_profile}
 use Rattle.entries.proofs.Laws.{entry_length}
 use Rattle.dispersion.specs.Dispersion.{arrival_time_of, reported}
@@ -48,7 +48,7 @@ fill_begin {s} {rows} {o} ranges h e n =
 
 module _ {s : Segment} {p₀ p : Profiles} {b : ℕ} {r : ℕ → ℕ → ℕ} (h : Filling s p₀ p b r) (ranges : Ranges s) where
   pub fill_asks : b ≤ run_limit → {e : Entry} {v : ℕ} (row : List ℕ) → EntryRanges s.cycle e → v ≡ discharge_volume s.cycle e →
-      ((j : ℕ) → get_or row j 0 ≤ discharge_units s.cycle e) → FillEntryFits s.running s.cycle e v row p
+      ((j : ℕ) → get_or row j 0 ≤ discharge_volume s.cycle e) → FillEntryFits s.running s.cycle e v row p
   fill_asks hb row er ev shares =
       record {
         time = ranges.running.1;
@@ -63,7 +63,7 @@ module _ {s : Segment} {p₀ p : Profiles} {b : ℕ} {r : ℕ → ℕ → ℕ} (
 
   -- one entry more: to each number what lands there is added
   pub then_entry : {e : Entry} (row : List ℕ) → EntryRanges s.cycle e → length row ≡ 4 →
-      ((j : ℕ) → get_or row j 0 ≤ discharge_units s.cycle e) → {p' : Profiles} → p' ≡ entry_step s.running s.cycle e row p →
+      ((j : ℕ) → get_or row j 0 ≤ discharge_volume s.cycle e) → {p' : Profiles} → p' ≡ entry_step s.running s.cycle e row p →
       Filling s p₀ p' (b + arrival_limit) (λ j k. r j k + lands_in s e (get_or row j 0) k)
   unfolding entry_step spread_step lands_in pair_of entry_arrivals
   then_entry {e} row er four shares {p'} ep =
@@ -75,7 +75,7 @@ module _ {s : Segment} {p₀ p : Profiles} {b : ℕ} {r : ℕ → ℕ → ℕ} (
       let last : length (reported s.running q cycles) ≡ c = reported_length s.running q cycles_before ∙ l in
       let runs : p'.output ≡ four_runs c (λ j k. r j k + lands_in s e (get_or row j 0) k) rest =
       ap (λ (x : Profiles). x.output) ep
-      ∙ rw (h.runs, l) (added_runs c (arrival_time_of s.running) (discharge_units c e) (reported s.running q cycles) row r
+      ∙ rw (h.runs, l) (added_runs c (arrival_time_of s.running) (discharge_volume c e) (reported s.running q cycles) row r
       rest (omega (arith, ranges.cycle)) four) in
       let first : p'.first ≡ reported s.running q cycles ++ drop c p.first = ap (λ (x : Profiles). x.first) ep ∙ rw l in
       let second : p'.second ≡ reported s.running q cycles_before ++ drop c p.second = ap (λ (x : Profiles). x.second) ep ∙ rw l in

@@ -6,7 +6,7 @@ use Rattle.movements.specs.Movements.{flow_units}
 use Rattle.segment.specs.declared.Entry.{Entry}
 use Rattle.segment.specs.declared.Segment.{Segment}
 use Rattle.ranges.specs.Ranges.{Ranges, EntryRanges}
-use Rattle.metering.specs.Metering.{discharge_units}
+use Rattle.metering.specs.Metering.{discharge_volume}
 use Rattle.metering.proofs.Metering.{discharge_volume_entry}
 use Rattle.entries.specs.Entries.{entry_profile}
 use Rattle.entries.proofs.Laws.{entry_length, entry_le}
@@ -18,13 +18,13 @@ use Rattle.propagation.specs.Steps.{RowsFit}
 use Rattle.propagation.specs.Largest.{largest_flow}
 
 -- no more of an entry lands in a step than its saturation brings
-pub lands_in_le : (s : Segment) (e : Entry) (v k : ℕ) → EntryRanges s.cycle e → v ≤ discharge_units s.cycle e → 0 < k → k ≤ s.cycle →
+pub lands_in_le : (s : Segment) (e : Entry) (v k : ℕ) → EntryRanges s.cycle e → v ≤ discharge_volume s.cycle e → 0 < k → k ≤ s.cycle →
     lands_in s e v k ≤ flow_units flow_limit
 unfolding lands_in pair_of entry_arrivals
 lands_in_le s e v k r share pos fits =
     let c = s.cycle in
     let q = entry_profile c e in
-    lands_le c (arrival_time_of s.running) k v (discharge_units c e) (flow_units flow_limit) _ pos fits
+    lands_le c (arrival_time_of s.running) k v (discharge_volume c e) (flow_units flow_limit) _ pos fits
     (omega (arith, reported_length s.running q cycles_before, entry_length c e)) share
     (reported_le s.running (flow_units flow_limit) q cycles (entry_le c e r))
 

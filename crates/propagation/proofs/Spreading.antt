@@ -8,7 +8,7 @@ use mathlib.Core.List.{List, ◌++◌}
 use lib.ListN.{length, take, drop}
 use lib.Seq.{take_at}
 use Rattle.segment.specs.declared.Entry.{Entry}
-use Rattle.metering.specs.Metering.{discharge_units}
+use Rattle.metering.specs.Metering.{discharge_volume}
 use Rattle.entries.specs.Entries.{entry_profile}
 use Rattle.entries.proofs.Laws.{entry_length, entry_le}
 use Rattle.dispersion.specs.declared.PlatoonState.{PlatoonState}
@@ -53,7 +53,7 @@ module _ (c : ℕ) (e : Entry) (ys : List ℕ) (made : ys ≡ entry_profile c e)
 
 -- what the spreading asks of an entry of the record
 pub entry_asks : {running c o : ℕ} {e : Entry} {row : List ℕ} {p : Profiles} → FillEntryFits running c e o row p →
-    {units : ℕ} → units ≡ discharge_units c e → {q : List ℕ} → q ≡ entry_profile c e → SpreadFits running units row q p
+    {units : ℕ} → units ≡ discharge_volume c e → {q : List ℕ} → q ≡ entry_profile c e → SpreadFits running units row q p
 entry_asks {running} {c} {o} {e} {row} {p} h eu eq =
     let l : length (entry_profile c e) ≡ c = entry_length c e in
     let n : length (reported running (entry_profile c e) cycles) ≡ c = reported_length running (entry_profile c e) cycles_before ∙ l in
@@ -73,7 +73,7 @@ entry_asks {running} {c} {o} {e} {row} {p} h eu eq =
       };
     })
 
-pub entry_done : (running c : ℕ) (e : Entry) (row : List ℕ) (p : Profiles) {p' : Profiles} {units : ℕ} → units ≡ discharge_units c e →
+pub entry_done : (running c : ℕ) (e : Entry) (row : List ℕ) (p : Profiles) {p' : Profiles} {units : ℕ} → units ≡ discharge_volume c e →
     {q : List ℕ} → q ≡ entry_profile c e → p' ≡ spread_step running units row q p → p' ≡ entry_step running c e row p
 unfolding entry_step
 entry_done running c e row p eu eq h = h ∙ rw (eu, eq)

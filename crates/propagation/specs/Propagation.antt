@@ -4,7 +4,7 @@ use Rattle.limits.specs.Limits.{most_cycle}
 use Rattle.signal.specs.Landing.{landing}
 use Rattle.segment.specs.declared.Entry.{Entry}
 use Rattle.segment.specs.declared.Segment.{Segment}
-use Rattle.metering.specs.Metering.{discharge_units}
+use Rattle.metering.specs.Metering.{discharge_volume}
 use Rattle.entries.specs.Entries.{entry_profile}
 use Rattle.dispersion.specs.Dispersion.{arrival_time_of, reported}
 use Rattle.pair_parts.specs.PairParts.{pair_arrivals}
@@ -55,7 +55,7 @@ entry_arrivals s e = reported s.running (entry_profile s.cycle e) cycles
 
 -- what of them goes to the exit that has v of the entry's flow units
 unfoldable pub pair_of : Segment → Entry → ℕ → List ℕ
-pair_of s e v = pair_arrivals v (discharge_units s.cycle e) (entry_arrivals s e)
+pair_of s e v = pair_arrivals v (discharge_volume s.cycle e) (entry_arrivals s e)
 
 -- what of it lands in a step
 unfoldable pub lands_in : Segment → Entry → ℕ → ℕ → ℕ

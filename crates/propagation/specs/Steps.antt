@@ -2,11 +2,10 @@
 use Rattle.std.specs.Prelude.{ℕ, ◌*◌, ◌≤◌, ◌<◌, ◌≡◌, List, [], ◌++◌, length, drop, get_or}
 use Rattle.std.proofs.Common.{arith}
 use Rattle.limits.specs.Limits.{least_cycle, most_cycle, most_running}
-use Rattle.movements.specs.Movements.{flow_units}
 use Rattle.segment.specs.declared.Entry.{Entry}
 use Rattle.segment.specs.declared.Segment.{Segment}
 use Rattle.ranges.specs.Ranges.{EntryRanges}
-use Rattle.metering.specs.Metering.{discharge_volume, discharge_units}
+use Rattle.metering.specs.Metering.{discharge_volume, access_discharge}
 use Rattle.entries.specs.Entries.{entry_profile}
 use Rattle.dispersion.specs.Dispersion.{arrival_time_of, reported}
 use Rattle.arrivals.specs.Arrivals.{run_limit, entry_added}
@@ -28,7 +27,7 @@ pub record SpreadFits (running units : ℕ) (row q : List ℕ) (p : Profiles) : 
 
 -- the same from an entry of the record
 unfoldable pub entry_step : (running c : ℕ) → Entry → List ℕ → Profiles → Profiles
-entry_step running c e row p = spread_step running (discharge_units c e) row (entry_profile c e) p
+entry_step running c e row p = spread_step running (discharge_volume c e) row (entry_profile c e) p
 
 -- profiles that are long enough
 pub record Room (c : ℕ) (p : Profiles) : Type 0 where
@@ -46,17 +45,17 @@ pub record FillEntryFits (running c : ℕ) (e : Entry) (o : ℕ) (row : List ℕ
   pub cycle : (least_cycle ≤ c) × (c ≤ most_cycle)
   pub entry : EntryRanges c e
   pub volume : o ≡ discharge_volume c e
-  pub shares : (j : ℕ) → get_or row j 0 ≤ discharge_units c e
+  pub shares : (j : ℕ) → get_or row j 0 ≤ discharge_volume c e
   pub room : Room c p
   pub small : (k : ℕ) → k < 4 * c → get_or p.output k 0 ≤ run_limit
 
--- four rows of four, each within its entry's flow units
+-- four rows of four, each within what its entry discharges
 pub record RowsFit (s : Segment) (rows : List (List ℕ)) : Type 0 where
   pub four : (i : ℕ) → i < 4 → length (get_or rows i []) ≡ 4
-  pub left : (j : ℕ) → pair_flow rows 0 j ≤ discharge_units s.cycle s.left
-  pub through : (j : ℕ) → pair_flow rows 1 j ≤ discharge_units s.cycle s.through
-  pub right : (j : ℕ) → pair_flow rows 2 j ≤ discharge_units s.cycle s.right
-  pub access : (j : ℕ) → pair_flow rows 3 j ≤ flow_units s.access
+  pub left : (j : ℕ) → pair_flow rows 0 j ≤ discharge_volume s.cycle s.left
+  pub through : (j : ℕ) → pair_flow rows 1 j ≤ discharge_volume s.cycle s.through
+  pub right : (j : ℕ) → pair_flow rows 2 j ≤ discharge_volume s.cycle s.right
+  pub access : (j : ℕ) → pair_flow rows 3 j ≤ access_discharge s
 
 pub record FillFits (s : Segment) (rows : List (List ℕ)) (p : Profiles) : Type 0 where
   pub shares : RowsFit s rows

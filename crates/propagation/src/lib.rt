@@ -91,7 +91,7 @@ fn fill_entry(s: Segment, e: Entry, o: u32, row: [u32; 4], profiles: &mut LentPr
     entries::fill_profile(s.cycle, e, o, &mut discharge[0..c]);
     spread(
         s.running,
-        movements::flow_units(o),
+        o,
         row,
         &discharge[0..c],
         profiles.output,
