@@ -11,7 +11,7 @@ use Rattle.signal.proofs.Landing.{landing_is}
 use Rattle.segment.specs.declared.Entry.{Entry}
 use Rattle.segment.specs.declared.Segment.{Segment}
 use Rattle.ranges.specs.Ranges.{Ranges}
-use Rattle.metering.specs.Metering.{discharge_units}
+use Rattle.metering.specs.Metering.{discharge_volume}
 use Rattle.entries.specs.Entries.{entry_profile}
 use Rattle.entries.proofs.Laws.{entry_length}
 use Rattle.dispersion.specs.Dispersion.{arrival_time_of, reported}
@@ -36,13 +36,13 @@ module _ (s : Segment) (e : Entry) where
 
   -- what lands in a step is as near to its exact share as the arrivals to the exact flow, and one flow unit more
   lands_within : {u d : ℕ} {exact : ExactFlow} (v step : ℕ) → 0 < u → Near u d cycles exact s.running (entry_profile s.cycle e) →
-      v ≤ discharge_units s.cycle e → 0 < step → step ≤ s.cycle →
+      v ≤ discharge_volume s.cycle e → 0 < step → step ≤ s.cycle →
       WithinParts u (d + u) (lands_in s e v step) (exact_of exact s e v (earlier s.cycle (arrival_time_of s.running) step))
   unfolding lands_in pair_of exact_of entry_arrivals
   lands_within v step unit near h pos fits =
       let c = s.cycle in
       let t = arrival_time_of s.running in
-      let w = discharge_units c e in
+      let w = discharge_volume c e in
       let i = earlier c t step in
       let before = i - 1 in
       let first = earlier_pos c t step in
@@ -59,7 +59,7 @@ module _ (s : Segment) (e : Entry) where
       let last : s.cycle ≡ length q = sym (entry_length s.cycle e) in
       record {
         balanced = rw (ap (λ (n : ℕ). get_or (reported s.running q cycles) (n - 1) 0) last) (entry_balanced s.running q cycles_before);
-        shared = λ pos exit h. pair_shared (v exit) (discharge_units s.cycle e) (entry_arrivals s e) (omega arith);
+        shared = λ pos exit h. pair_shared (v exit) (discharge_volume s.cycle e) (entry_arrivals s e) (omega arith);
       }
 
 -- an exit's flow: three pairs, and access, which is exact

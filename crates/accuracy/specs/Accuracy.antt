@@ -5,7 +5,7 @@ use Rattle.runs.specs.Runs.{run_at}
 use Rattle.signal.specs.Turn.{earlier}
 use Rattle.segment.specs.declared.Entry.{Entry}
 use Rattle.segment.specs.declared.Segment.{Segment}
-use Rattle.metering.specs.Metering.{discharge_volume, discharge_units}
+use Rattle.metering.specs.Metering.{discharge_volume}
 use Rattle.entries.specs.Entries.{entry_profile}
 use Rattle.dispersion.specs.Dispersion.{arrival_time_of, reported}
 use Rattle.pair_parts.specs.PairParts.{Shared}
@@ -21,7 +21,7 @@ from_empty = exact_reported cycles
 
 -- what an exit exactly has of an entry in discharge step i of the reported cycle
 unfoldable pub exact_of : ExactFlow → Segment → Entry → (v i : ℕ) → Fraction
-exact_of exact s e v i = exact_pair (exact s.running (entry_profile s.cycle e) i) v (discharge_units s.cycle e)
+exact_of exact s e v i = exact_pair (exact s.running (entry_profile s.cycle e) i) v (discharge_volume s.cycle e)
 
 -- an exit's exact flow in a step, landed alike: of the discharge step that lands there, the platoon arrival time before it
 unfoldable pub exact_at : ExactFlow → Segment → List (List ℕ) → (exit step : ℕ) → Fraction
@@ -50,9 +50,9 @@ arrived_in s p =
 pub record EntryHolds (s : Segment) (e : Entry) (v : ℕ → ℕ) (all : ℕ) (last : List ℕ) : Type 0 where
   -- N·(discharged - arrived) - (D-N)·(last step's arrival) is from 0 to D - 1
   pub balanced : Balanced s.running (departed (entry_profile s.cycle e) cycles) all (get_or last (s.cycle - 1) 0)
-  -- where it discharges: a pair's arrivals in the reported cycle never exceed v/(1000·O) of the entry's, and fall short of it by less than one
+  -- where it discharges: a pair's arrivals in the reported cycle never exceed v/O of the entry's, and fall short of it by less than one
   pub shared : 0 < discharge_volume s.cycle e → (exit : ℕ) → exit < 4 →
-      Shared (v exit) (discharge_units s.cycle e) (sum last) (sum (pair_of s e (v exit)))
+      Shared (v exit) (discharge_volume s.cycle e) (sum last) (sum (pair_of s e (v exit)))
 
 -- an entry whose arrivals no profile keeps: those of dispersion
 abbrev pub EntryMeets : Segment → Entry → (ℕ → ℕ) → Type 0

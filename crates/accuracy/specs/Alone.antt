@@ -6,7 +6,7 @@ use Rattle.std.proofs.Common.{arith, mul-le-mul_right, mul-lt-mul_of_pos_right}
 use Rattle.lists.specs.Lists.{sum}
 use Rattle.segment.specs.declared.Entry.{Entry}
 use Rattle.segment.specs.declared.Segment.{Segment}
-use Rattle.metering.specs.Metering.{discharge_units}
+use Rattle.metering.specs.Metering.{discharge_volume}
 use Rattle.entries.specs.Entries.{entry_profile}
 use Rattle.dispersion.specs.Dispersion.{smoothing, divisor_of}
 use Rattle.pair_parts.specs.PairParts.{Shared}
@@ -28,6 +28,6 @@ undispersed_shut s e v pos h = unbalanced s.running _ _ pos h.balanced
 above : (v w a : ℕ) → v < w → 0 < a → Shared v w a a → ⊥
 above v w a less pos h = omega (arith, h.never_above, mul-lt-mul_of_pos_right less pos)
 
-pub unshared_shut : (s : Segment) (e : Entry) (v : ℕ → ℕ) (all : ℕ) (last : List ℕ) (exit : ℕ) → exit < 4 → v exit < discharge_units s.cycle e
+pub unshared_shut : (s : Segment) (e : Entry) (v : ℕ → ℕ) (all : ℕ) (last : List ℕ) (exit : ℕ) → exit < 4 → v exit < discharge_volume s.cycle e
     → 0 < sum last → sum (pair_of s e (v exit)) ≡ sum last → EntryHolds s e v all last → ⊥
 unshared_shut s e v all last exit h less pos same d = above (v exit) _ (sum last) less pos (rw same at (d.shared (omega arith) exit h))

@@ -94,7 +94,7 @@ fn settle(balancing: Balancing) -> Balance
     unsettled(before.change, ROUND_LIMIT)
 }
 
-// The settling of whole volumes: discharge of the entries, exit volumes, seeds in hundredths.
+// The settling of whole numbers: discharges in thousandths of veh/h, exit volumes in veh/h, seeds in hundredths.
 #[tactic(auto, unfolding(crate::specs::Settling::balanced))]
 pub fn balanced(o: Counts, exits: Counts, seeds: Seeds) -> Balance
     ensures { result ≡ balanced o exits seeds }

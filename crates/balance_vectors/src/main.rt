@@ -4,7 +4,6 @@
 #![tactic(auto)]
 
 ghost use Rattle.std.specs.Prelude.{◌+◌, ◌≤◌};
-ghost use Rattle.balance_pairs.specs.Pairs.{WithinLimit};
 
 use balance::{Balance, Settling};
 use balance_decision::Unworked;
@@ -66,9 +65,7 @@ fn unworked_differs(s: &[u8; 260], u: Unworked, b: Balance) -> bool {
 }
 
 // Where there are no pair flows, those expected are all 0.
-fn answer_differs(s: &[u8; 260], o: Counts, exits: Counts, seeds: Seeds) -> bool
-    requires { WithinLimit o }
-{
+fn answer_differs(s: &[u8; 260], o: Counts, exits: Counts, seeds: Seeds) -> bool {
     let number = octets::word4_at(s, 48);
     let b = balance::balanced(o, exits, seeds);
     match balance_decision::decide(o, exits, seeds) {
@@ -87,13 +84,10 @@ fn answer_differs(s: &[u8; 260], o: Counts, exits: Counts, seeds: Seeds) -> bool
     }
 }
 
-// A body of another length differs, and so does a discharge out of range.
+// A body of another length differs.
 fn case_differs(body: &[u8]) -> bool {
-    body.as_array().is_none_or(|s| {
-        let o = counts_at(s, 0);
-        o.map(|o| limits::ENTRY_LIMIT < o).any()
-            || answer_differs(s, o, counts_at(s, 16), seeds_at(s, 32))
-    })
+    body.as_array()
+        .is_none_or(|s| answer_differs(s, counts_at(s, 0), counts_at(s, 16), seeds_at(s, 32)))
 }
 
 fn main(rt: HostRuntime) -> io::Result<()> {

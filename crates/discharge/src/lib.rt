@@ -35,7 +35,8 @@ fn write(accepted: Accepted, profile: &mut [u32]) -> Signalised<u32>
     }
 }
 
-// The three discharge profiles, C numbers each, to the front of a lent profile; the three discharge volumes are answered, in veh/h.
+// The three discharge profiles, C numbers each, to the front of a lent profile; the three discharge volumes are answered, in thousandths of
+// veh/h.
 pub fn discharge(bytes: &[u8], profile: &mut [u32]) -> Result<Signalised<u32>, Refusal>
     ensures { Calls bytes.now profile.old result profile.new }
 {

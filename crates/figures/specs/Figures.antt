@@ -41,7 +41,7 @@ computed =
     -- post 0, length 1; post 55, length 10, C 60
     green_steps 60 (green 0 1)
     ∷ green_steps 60 (green 55 10)
-    -- capacity
+    -- capacity, in thousandths of veh/h
     ∷ (capacity 1800 31 70 ∷ [])
     -- G 10 over 4 green steps
     ∷ tab (received 10 4) 1 4
@@ -65,7 +65,7 @@ pub figures :
     computed
     ≡ (1 ∷ [])
     ∷ (56 ∷ 57 ∷ 58 ∷ 59 ∷ 60 ∷ 1 ∷ 2 ∷ 3 ∷ 4 ∷ 5 ∷ [])
-    ∷ (797 ∷ [])
+    ∷ (797142 ∷ [])
     ∷ (2 ∷ 3 ∷ 2 ∷ 3 ∷ [])
     ∷ (replicate 15 1800000 ++ (replicate 15 600000 ++ replicate 30 0))
     ∷ (1 ∷ 34 ∷ 35 ∷ [])

@@ -6,12 +6,12 @@ use Rattle.std.proofs.Math.Nat.{sub-zero}
 use Rattle.limits.specs.Limits.{most_running}
 use Rattle.lists.specs.Lists.{tab, tab_length, tab_each_le, tab_constant}
 use Rattle.runs.specs.Runs.{run_at}
-use Rattle.movements.specs.Movements.{flow_units}
 use Rattle.signal.specs.Turn.{earlier}
 use Rattle.signal.specs.Landing.{added}
 use Rattle.signal.proofs.Landing.{landing_is, added_tab}
 use Rattle.segment.specs.declared.Entry.{Entry}
 use Rattle.segment.specs.declared.Segment.{Segment}
+use Rattle.metering.specs.Metering.{access_discharge}
 use Rattle.ranges.specs.Ranges.{Ranges, EntryRanges}
 use Rattle.entries.specs.Entries.{entry_profile, EntryRuns}
 use Rattle.entries.proofs.Laws.{entry_length, entry_le}
@@ -54,10 +54,10 @@ pub record Passing (s : Segment) (b : ℕ) (r : ℕ → ℕ) (run : List ℕ) : 
   pub small : (step : ℕ) → 0 < step → step ≤ s.cycle → r step ≤ b
 
 -- access begins it
-pub passing_start : (s : Segment) {units n : ℕ} {run : List ℕ} → units ≡ flow_units s.access → n ≡ s.cycle → run ≡ replicate n units →
-    Passing s (flow_units s.access) (λ step. flow_units s.access) run
+pub passing_start : (s : Segment) {units n : ℕ} {run : List ℕ} → units ≡ access_discharge s → n ≡ s.cycle → run ≡ replicate n units →
+    Passing s (access_discharge s) (λ step. access_discharge s) run
 passing_start s eu en e =
-    record { is = e ∙ rw (eu, en) (tab_constant (flow_units s.access) 1 s.cycle); small = λ step low high. omega arith }
+    record { is = e ∙ rw (eu, en) (tab_constant (access_discharge s) 1 s.cycle); small = λ step low high. omega arith }
 
 module _ {s : Segment} {b : ℕ} {r : ℕ → ℕ} {run : List ℕ} (h : Passing s b r run) where
   passing_length : length run ≡ s.cycle
@@ -156,7 +156,7 @@ runs_done (suc (suc (suc k))) c few h = omega arith
 
 -- access and the first k entries
 abbrev pub passed : Segment → Point → ℕ → ℕ → ℕ
-passed s p zero step = flow_units s.access
+passed s p zero step = access_discharge s
 passed s p (suc k) step = passed s p k step + passes_in s p (entry_at s k) step
 
 -- k entries have passed; the discharges of the others are left, in runs of so many
@@ -164,14 +164,14 @@ pub record Passed (s : Segment) (p : Point) (discharges : List ℕ) (size : ℕ)
   pub few : k ≤ 3
   pub cycle : size ≡ s.cycle
   pub left : rest ≡ drop (k * s.cycle) discharges
-  pub passing : Passing s (flow_units s.access + k * arrival_limit) (passed s p k) run
+  pub passing : Passing s (access_discharge s + k * arrival_limit) (passed s p k) run
 
 module _ {s : Segment} {p : Point} {discharges : List ℕ} (d : Three s discharges) where
-  pub passed_start : {size units n : ℕ} {rest run : List ℕ} → size ≡ s.cycle → rest ≡ discharges → units ≡ flow_units s.access → n ≡ s.cycle →
+  pub passed_start : {size units n : ℕ} {rest run : List ℕ} → size ≡ s.cycle → rest ≡ discharges → units ≡ access_discharge s → n ≡ s.cycle →
       run ≡ replicate n units → Passed s p discharges size rest run 0
   passed_start es er eu en e =
       let z : 0 * s.cycle ≡ 0 = omega arith in
-      let b : flow_units s.access + 0 * arrival_limit ≡ flow_units s.access = omega arith in
+      let b : access_discharge s + 0 * arrival_limit ≡ access_discharge s = omega arith in
       record { few = omega arith; cycle = es; left = rw (z, er); passing = rw b (passing_start s eu en e) }
 
   module _ {size k : ℕ} {rest run : List ℕ} (r : Passed s p discharges size rest run k) where
@@ -199,7 +199,7 @@ module _ {s : Segment} {p : Point} {discharges : List ℕ} (d : Three s discharg
           run' ≡ added (length run) (arrival_time_of p.running) 1 (reported p.running next cycles) run →
           Passed s p discharges size' others run' (k + 1)
       passed_turn es is =
-          let b : flow_units s.access + (k + 1) * arrival_limit ≡ flow_units s.access + k * arrival_limit + arrival_limit = omega arith in
+          let b : access_discharge s + (k + 1) * arrival_limit ≡ access_discharge s + k * arrival_limit + arrival_limit = omega arith in
           record {
             few = omega (arith, more);
             cycle = es ∙ r.cycle;

@@ -35,7 +35,7 @@ fn fill_point(accepted: Accepted, p: Point, discharges: &[u32], run: &mut [u32])
 {
     let s = accepted.segment;
     let one = s.cycle as usize;
-    run.fill(movements::flow_units(s.access));
+    run.fill(metering::access_discharge(accepted));
     for discharge in discharges[..3 * one].chunks_exact(one) {
         pass(p.running, discharge, run);
     }

@@ -6,11 +6,11 @@ use Rattle.std.specs.Prelude.{true, ◌≡◌, refl, List, take}
 use Rattle.std.proofs.Math.Path.{ap}
 use Rattle.std.proofs.Math.ListN.{length}
 use Rattle.limits.specs.Limits.{most_running}
-use Rattle.movements.specs.Movements.{flow_units}
 use Rattle.signal.specs.Turn.{earlier}
 use Rattle.signal.proofs.Turn.{earlier_pos, earlier_le}
 use Rattle.segment.specs.declared.Entry.{Entry}
 use Rattle.segment.specs.declared.Segment.{Segment}
+use Rattle.metering.specs.Metering.{access_discharge}
 use Rattle.ranges.specs.Ranges.{Ranges}
 use Rattle.entries.specs.Entries.{entry_profile}
 use Rattle.entries.proofs.Laws.{entry_length}
@@ -48,7 +48,7 @@ module _ {u d : ℕ} {exact : ExactFlow} (s : Segment) (p : Point) where
       WithinParts u (3 * d) (point_flow s p step) (exact_point exact s p step)
   unfolding point_flow exact_point
   point_within near step first last =
-      let a = flow_units s.access in
+      let a = access_discharge s in
       let x = passes_in s p s.left step in
       let y = passes_in s p s.through step in
       let z = passes_in s p s.right step in

@@ -2,9 +2,9 @@
 use Rattle.std.specs.Prelude.{ℕ, ◌≤◌, ◌<◌, List, get_or}
 use Rattle.lists.specs.Lists.{number_at}
 use Rattle.runs.specs.Runs.{run_at}
-use Rattle.movements.specs.Movements.{flow_units}
 use Rattle.signal.specs.Turn.{earlier}
 use Rattle.segment.specs.declared.Segment.{Segment}
+use Rattle.metering.specs.Metering.{access_discharge}
 use Rattle.entries.specs.Entries.{entry_profile}
 use Rattle.dispersion.specs.Dispersion.{arrival_time_of}
 use Rattle.exact.specs.Fraction.{Fraction, Within}
@@ -22,7 +22,7 @@ exact_point exact s p step =
     exact_exit (exact p.running (entry_profile s.cycle s.left) i)
     (exact p.running (entry_profile s.cycle s.through) i)
     (exact p.running (entry_profile s.cycle s.right) i)
-    (flow_units s.access)
+    (access_discharge s)
 
 -- what stands where no point does
 abbrev pub no_point : Point

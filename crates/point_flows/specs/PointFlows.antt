@@ -2,10 +2,10 @@
 use Rattle.std.specs.Prelude.{ℕ, ◌+◌, ◌-◌, List, ◌++◌, map, length, replicate}
 use Rattle.lists.specs.Lists.{tab}
 use Rattle.runs.specs.PerRun.{per_run}
-use Rattle.movements.specs.Movements.{flow_units}
 use Rattle.signal.specs.Landing.{landing}
 use Rattle.segment.specs.declared.Entry.{Entry}
 use Rattle.segment.specs.declared.Segment.{Segment}
+use Rattle.metering.specs.Metering.{access_discharge}
 use Rattle.entries.specs.Entries.{entry_profile}
 use Rattle.dispersion.specs.Dispersion.{arrival_time_of, reported}
 use Rattle.exit_figures.specs.ExitFigures.{blocked_steps}
@@ -23,7 +23,7 @@ passes_in s p e step = landing s.cycle (arrival_time_of p.running) step 1 (point
 
 -- the flow past a point in a step: access adds its discharge, undispersed, in every step
 unfoldable pub point_flow : Segment → Point → ℕ → ℕ
-point_flow s p step = flow_units s.access + passes_in s p s.left step + passes_in s p s.through step + passes_in s p s.right step
+point_flow s p step = access_discharge s + passes_in s p s.left step + passes_in s p s.through step + passes_in s p s.right step
 
 -- a point's run
 unfoldable pub point_run : Segment → Point → List ℕ

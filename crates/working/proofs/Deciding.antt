@@ -1,14 +1,11 @@
 -- The ways of the call, over plain variables.
 use Rattle.std.specs.Prelude.{Result, Ok, Err}
-use Rattle.std.proofs.Common.{ℕ, ◌*◌, ◌≡◌, ap, sym, subst, ◌∙◌, List, drop, arith}
+use Rattle.std.proofs.Common.{ℕ, ◌*◌, ◌≡◌, ap, sym, subst, ◌∙◌, List, drop}
 use Rattle.refusal.specs.declared.Refusal.{Refusal}
 use Rattle.refusal.specs.Refusal.{ok_refused}
 use Rattle.movements.specs.PerMovement.{Counts}
 use Rattle.segment.specs.declared.Segment.{Segment}
-use Rattle.ranges.specs.Ranges.{Ranges}
 use Rattle.metering.specs.Metering.{discharge_volumes}
-use Rattle.metering.proofs.Metering.{discharge_volume_entry}
-use Rattle.balance_pairs.specs.Pairs.{WithinLimit}
 use Rattle.balance_decision.specs.declared.Decision.{Decision}
 use Rattle.balance_decision.specs.declared.Unworked.{Unworked}
 use Rattle.balance_decision.specs.declared.Unworked.TheVariants.{Refused}
@@ -24,17 +21,6 @@ use Rattle.working.proofs.Decided.{decided_accurate}
 use Rattle.working.proofs.Ways.{accept_for, call_passed, call_accepted, call_refused}
 
 -- ---- what the volumes decide
-
--- an accepted record's discharge volumes are within their limit
-pub limits : (s : Segment) (o : Counts) → Ranges s → o ≡ discharge_volumes s → WithinLimit o
-unfolding discharge_volumes
-limits s o r e =
-    rw e (
-      omega (arith, discharge_volume_entry s.cycle s.left, r.left.volume),
-      omega (arith, discharge_volume_entry s.cycle s.through, r.through.volume),
-      omega (arith, discharge_volume_entry s.cycle s.right, r.right.volume),
-      r.access,
-    )
 
 pub decided_is : (s : Segment) {o : Counts} {d : Result Decision Unworked} → o ≡ discharge_volumes s → d ≡ decision_of o s.exits s.seeds → d ≡ decision_for s
 unfolding decision_for

@@ -5,10 +5,9 @@ use Rattle.std.proofs.Common.{arith, leb-true}
 use Rattle.refusal.specs.Refusal.{both}
 use Rattle.lists.specs.Lists.{sum}
 use Rattle.movements.specs.PerMovement.{Counts}
-use Rattle.movements.specs.Movements.{flow_units}
 use Rattle.segment.specs.declared.Segment.{Segment}
 use Rattle.balance_flows.specs.Flows.{Flows, FlowTable}
-use Rattle.metering.specs.Metering.{discharge_volumes, discharge_units}
+use Rattle.metering.specs.Metering.{discharge_volume, access_discharge, discharge_volumes}
 use Rattle.balance_pairs.specs.Pairs.{pair_row, pair_rows, row_adds_lem}
 use Rattle.balance_decision.specs.declared.Decision.{Decision}
 use Rattle.balance_decision.specs.Meaning.{from_cells}
@@ -57,8 +56,8 @@ rows_fit s d e =
     rw f.rows
     (record {
       four = rows_four c (discharge_volumes s);
-      left = row_le c.left (discharge_units s.cycle s.left);
-      through = row_le c.through (discharge_units s.cycle s.through);
-      right = row_le c.right (discharge_units s.cycle s.right);
-      access = row_le c.access (flow_units s.access);
+      left = row_le c.left (discharge_volume s.cycle s.left);
+      through = row_le c.through (discharge_volume s.cycle s.through);
+      right = row_le c.right (discharge_volume s.cycle s.right);
+      access = row_le c.access (access_discharge s);
     })
