@@ -23,7 +23,7 @@ use reference::vectors::orders::{flows, Order, THOUSANDTH_ORDERS};
 use reference::vectors::{balance as balance_vectors, discharge, points, sheet, working, File};
 use reference::working::{work, Working};
 
-use reader::cases;
+use reader::{cases, Reader};
 
 /// The working with its output and first work profile, cut to size.
 fn worked(bytes: &RecordBytes) -> (Working, Vec<u32>, Vec<u32>) {
@@ -190,45 +190,52 @@ fn unmetered_entries_tell_no_cut() {
     }
 }
 
-/// The records of a file whose cases begin with one.
-fn records_of(file: &File) -> BTreeSet<Vec<u8>> {
+/// The records of a file whose cases begin with one, each with its number, which stands so many bytes further.
+fn answered(file: &File, further: usize) -> BTreeSet<(Vec<u8>, u32)> {
     let bytes = file.bytes();
-    let mut cases = cases(&bytes);
-    cases
-        .iter_mut()
-        .map(|body| {
-            let length = body.number(2) as usize;
-            body.bytes(length).to_vec()
-        })
-        .collect()
+    let answer = |body: &mut Reader| {
+        let length = body.number(2) as usize;
+        let record = body.bytes(length).to_vec();
+        body.bytes(further);
+        (record, body.word())
+    };
+    cases(&bytes).iter_mut().map(answer).collect()
 }
 
-fn holds(file: &File, records: &[RecordBytes]) -> usize {
-    let all = records_of(file);
-    records
-        .iter()
-        .filter(|record| all.contains(&record[..]))
-        .count()
+/// The number of refusal of the working with profiles that are long enough, 0 where it accepts.
+fn number(record: &RecordBytes) -> u32 {
+    let (mut output, mut first, mut second) = ([0; 960], [0; 240], [0; 240]);
+    let result = work(record, &mut output, &mut first, &mut second);
+    result.map_or_else(|refused| refused.number, |_| 0)
+}
+
+/// How many of these records are answered as the working answers them.
+fn holds(file: &File, further: usize, records: &[RecordBytes]) -> usize {
+    let all = answered(file, further);
+    let held = |record: &&RecordBytes| all.contains(&(record.to_vec(), number(record)));
+    records.iter().filter(held).count()
 }
 
 #[test]
 fn the_vectors_hold_them() {
-    let everywhere = [
-        at_capacity(),
-        little_alone(),
-        cut_records(),
-        order_records(),
-    ]
-    .concat();
-    assert_eq!(holds(&discharge::file(), &everywhere), everywhere.len());
+    let accepted = [little_alone(), cut_records(), order_records()].concat();
+    assert!(accepted.iter().all(|record| number(record) == 0));
+    let everywhere = [accepted, at_capacity()].concat();
+    let discharges = answered(&discharge::file(), 2);
+    let mut discharged = everywhere.iter().map(|record| (record.to_vec(), 0));
+    assert!(discharged.all(|case| discharges.contains(&case)));
     let also = [everywhere, little_served().to_vec()].concat();
-    assert_eq!(holds(&working::file(), &also), also.len());
-    assert!(holds(&points::file(), &also) >= 12);
-    assert!(holds(&sheet::file(), &also) >= 9);
+    assert_eq!(holds(&working::file(), 12, &also), also.len());
+    assert!(holds(&points::file(), 84, &also) >= 17);
+    assert!(holds(&sheet::file(), 16, &also) >= 13);
+    // a cut is told by an accepted record alone
+    let cuts = cut_records();
+    assert!(holds(&points::file(), 84, &cuts) >= 2 && holds(&sheet::file(), 16, &cuts) >= 4);
     let bytes = balance_vectors::file().bytes();
-    let balances: BTreeSet<Vec<u32>> = cases(&bytes).iter_mut().map(|body| body.words(8)).collect();
+    let inputs = |body: &mut Reader| (body.words(8), body.bytes(16).to_vec());
+    let balances: BTreeSet<(Vec<u32>, Vec<u8>)> = cases(&bytes).iter_mut().map(inputs).collect();
     for (_, metered) in BY_ORDER {
-        let (discharge, exits, _) = metered_inputs(metered);
-        assert!(balances.contains(&[discharge, exits].concat()));
+        let (discharge, exits, seeds) = metered_inputs(metered);
+        assert!(balances.contains(&([discharge, exits].concat(), seeds.concat())));
     }
 }

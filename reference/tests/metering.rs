@@ -43,6 +43,16 @@ fn capacities() {
     assert_eq!(capacity(11_999, 239, 240), 11_949_004);
 }
 
+/// Whole numbers throughout: in floats a capacity of whole thousandths can come one short.
+#[test]
+fn capacities_that_floats_make_less() {
+    assert_eq!(
+        [1000.0 * (203.0 / 50.0), 27.0 * (17_000.0 / 30.0)].map(|x: f64| x as u32),
+        [4059, 15_299]
+    );
+    assert_eq!([capacity(7, 29, 50), capacity(27, 17, 30)], [4060, 15_300]);
+}
+
 /// The smaller of capacity and volume, the volume in thousandths.
 #[test]
 fn binding_volumes_and_capacities() {

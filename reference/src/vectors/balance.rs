@@ -1,7 +1,7 @@
 //! Vectors of the balance.
 
 use super::balance_cases::{Inputs, BY_ROUNDS, BY_STOP};
-use super::metered::metered_inputs;
+use super::metered::{due_exits, metered_inputs};
 use super::metered_cases::BY_ORDER;
 use super::orders::{flows, Order, OTHER_ORDERS};
 use super::{product, Body, File};
@@ -189,8 +189,8 @@ fn add_extremes(file: &mut File) {
         [1000, 6_000_000, 6_000_000, 1000],
         [0, 6_000_000, 0, 0],
         // metered: the least, under one vehicle an hour, the most
-        [4, 999, 33, 0],
-        [5_999_999, 4, 5_999_975, 6_000_000],
+        [4, 995, 33, 0],
+        [5_999_995, 4, 5_999_975, 6_000_000],
     ];
     let exits = [
         [12000; 4],
@@ -219,6 +219,7 @@ pub fn order_cases() -> Vec<(Order, Inputs)> {
     let mut cases = Vec::new();
     for order in OTHER_ORDERS {
         let told_apart = repeat_with(|| exact_inputs(&mut random))
+            .flatten()
             .filter(|inputs| run(inputs).0 == 0 && tells_apart(order, inputs));
         cases.extend(told_apart.take(KEPT_OF_ORDER).map(|inputs| (order, inputs)));
     }
@@ -230,8 +231,9 @@ pub fn tells_apart(order: Order, (discharge, exits, seeds): &Inputs) -> bool {
     of(Order::Paper) != of(order)
 }
 
-/// Inputs whose cells are whole in exact numbers, so that a last bit moves a whole part.
-fn exact_inputs(random: &mut Random) -> Inputs {
+/// Inputs whose cells are whole in exact numbers, so that a last bit moves a whole part; none where the exit volumes
+/// would be out of range.
+fn exact_inputs(random: &mut Random) -> Option<Inputs> {
     let seeds = if random.one_in(4) {
         DEFAULT_SEEDS
     } else {
@@ -246,19 +248,16 @@ fn exact_inputs(random: &mut Random) -> Inputs {
         }
     });
     // in tenths of a vehicle an hour, of which access has whole ones
-    let entry_times = random.between(1, 60_000 / size);
-    let tenths = parts[ACCESS] * entry_times % 10;
-    if tenths > 0 {
-        parts[ACCESS] = 0;
-    }
-    let exits = seeded(&parts, &seeds);
-    let most = exits.into_iter().fold(1, u32::max);
-    let exit_times = random.between(1, 12000 / most);
-    (
+    parts[ACCESS] *= 10;
+    let exits = due_exits(&parts, &seeds)?;
+    let most = |numbers: [u32; 4]| numbers.into_iter().fold(1, u32::max);
+    let entry_times = random.between(1, 60_000 / most(parts));
+    let exit_times = random.between(1, 12000 / most(exits));
+    Some((
         parts.map(|part| UNITS / 10 * part * entry_times),
         exits.map(|exit| exit * exit_times),
         seeds,
-    )
+    ))
 }
 
 /// What the seeds give each exit, a hundred for each unit of discharge.

@@ -34,9 +34,16 @@ const LITTLE: [(u32, [u32; 2]); 8] = [
 ];
 
 /// Entries with volumes at their capacity: the whole vehicles of it, one more or less, and the most.
-/// The capacities are those of `LITTLE`, the paper's 797.142, and one that is whole.
+/// The capacities are those of `LITTLE`, the paper's 797.142, one that is whole, a large one, and two that floats would make
+/// a thousandth less: 1000·(203/50) and 27·(17000/30).
 pub fn at_capacity() -> Vec<RecordBytes> {
-    let more = [(70, [1800, 31]), (60, [1800, 20]), (31, [11_999, 15])];
+    let more = [
+        (70, [1800, 31]),
+        (60, [1800, 20]),
+        (31, [11_999, 15]),
+        (50, [7, 29]),
+        (30, [27, 17]),
+    ];
     let with_volumes = |&(cycle, [saturation, length]): &(u32, [u32; 2])| {
         let whole = capacity(saturation, length, cycle) / UNITS;
         let around = [whole.saturating_sub(1), whole, whole + 1];
@@ -200,7 +207,7 @@ fn shared_exits(random: &mut Random, row: &[u8; 4]) -> [u32; 4] {
 }
 
 /// Exactly what the seeds give each exit, in the smallest numbers, if these are in range.
-fn due_exits(discharge: &[u32; 4], seeds: &Seeds) -> Option<[u32; 4]> {
+pub fn due_exits(discharge: &[u32; 4], seeds: &Seeds) -> Option<[u32; 4]> {
     let due = seeded(discharge, seeds);
     let divisor = due.into_iter().fold(0, greatest_divisor).max(1);
     let exits = due.map(|exit| exit / divisor);

@@ -3,7 +3,7 @@
 use super::balance_cases::BY_ROUNDS;
 use super::discharge::refused_by_volume;
 use super::faults::faults;
-use super::metered::{little_alone, order_records};
+use super::metered::{cut_records, little_alone, order_records};
 use super::rest::late_to_rest;
 use super::working::{balance_record, example, fullest, long_record, with_idle_entries};
 use super::{buffer_before, product, profile_before, Body, File};
@@ -287,11 +287,12 @@ fn by_digits() -> Vec<RecordBytes> {
     records
 }
 
-/// Discharges that are not whole vehicles an hour, or under one.
+/// Discharges that are not whole vehicles an hour, or under one, and some that show how G is cut.
 fn metered() -> Vec<RecordBytes> {
     let by_order = order_records().into_iter().step_by(3);
     let little = little_alone().into_iter().step_by(7);
-    by_order.chain(little).collect()
+    let by_cut = cut_records().into_iter().step_by(8);
+    by_order.chain(little).chain(by_cut).collect()
 }
 
 /// Rows of every length, by a busy record and by a random one.
