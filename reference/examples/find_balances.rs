@@ -1,6 +1,7 @@
 //! Searches for the rare balances kept in `src/vectors/balance_cases.rs` and prints them.
 
 use reference::balance::{balance, check_volumes, Outcome, Stop, ROUND_LIMIT};
+use reference::metering::UNITS;
 use reference::random::Random;
 use reference::record::{Seeds, DEFAULT_SEEDS};
 use reference::samples::random_row;
@@ -54,7 +55,7 @@ fn class(outcome: Outcome, rounds: u32, stop: Option<Stop>) -> Option<(String, S
 
 /// Adjusted volumes past the largest float at the right exit, which has no volume.
 fn idle_exit(random: &mut Random) -> Option<String> {
-    let discharge = [(); 4].map(|_| random.between(1, 100));
+    let discharge = [(); 4].map(|_| UNITS * random.between(1, 100));
     let exits = [0, random.between(1, 20), 0, random.between(1, 2000)];
     let heavy = [0, 1, 99, 0];
     let seeds = [heavy, heavy, heavy, [0, 0, 0, 100]];
@@ -74,7 +75,7 @@ fn print_idle_exits() {
 
 /// A balance at random: its class and its line, if it is kept.
 fn random_balance(random: &mut Random) -> Option<(String, String)> {
-    let discharge = [(); 4].map(|_| volume(random, 6000));
+    let discharge = [(); 4].map(|_| UNITS * volume(random, 6000));
     let exits = [(); 4].map(|_| volume(random, 12000));
     let seeds = seeds(random);
     check_volumes(&discharge, &exits, &seeds).ok()?;

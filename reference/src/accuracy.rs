@@ -1,7 +1,7 @@
 //! Checks of a working's result against the exact flows: demand 3, the repeating flow, the points.
 
 use crate::arrivals::{landing, total, PairShare};
-use crate::discharge::{entry_discharge, UNITS};
+use crate::discharge::entry_discharge;
 use crate::dispersion::{arrival_time, denominator, Link, CYCLES, NUMERATOR};
 use crate::exact::{Exact, ExactArrivals};
 use crate::greens::Step;
@@ -19,9 +19,9 @@ pub struct Worked<'a> {
     pub second: &'a [u32],
 }
 
-/// A signalised entry: its discharge, and its arrivals over all cycles worked.
+/// A signalised entry: its discharge volume, its discharge, and its arrivals over all cycles worked.
 struct Platoon {
-    whole: u64,
+    whole: u32,
     leaving: Vec<u32>,
     arrivals: Vec<u32>,
 }
@@ -76,7 +76,7 @@ fn platoons(record: &Record) -> Vec<Platoon> {
         let all = leaving.iter().cycle().take(CYCLES * leaving.len());
         let arrivals = all.map(|&q| link.step(q)).collect();
         Platoon {
-            whole: u64::from(UNITS) * u64::from(volumes[i]),
+            whole: volumes[i],
             leaving,
             arrivals,
         }
@@ -156,7 +156,7 @@ fn check_exits(worked: &Worked, platoons: &[Platoon], exact: Exact) -> Result<()
         distances: exact.exit_distances(),
     };
     // an entry without discharge has no arrivals to share
-    let wholes: Vec<u64> = platoons.iter().map(|p| p.whole.max(1)).collect();
+    let wholes: Vec<u64> = platoons.iter().map(|p| u64::from(p.whole.max(1))).collect();
     let reported = exact.reported(&discharges(platoons), record.running_time);
     let shares = reported
         .into_iter()
@@ -173,6 +173,7 @@ pub fn check_points(
     exacts: &[Exact],
 ) -> Result<(), String> {
     let platoons = platoons(record);
+    let [.., access] = discharge_volumes(record);
     let runs = passing.chunks_exact(record.cycle as usize);
     for (n, (point, run)) in points.iter().zip(runs).enumerate() {
         for &exact in exacts {
@@ -180,7 +181,7 @@ pub fn check_points(
                 name: format!("point {n}"),
                 run,
                 factors: [1; 3],
-                steady: u64::from(UNITS) * u64::from(record.access_volume),
+                steady: u64::from(access),
                 distances: exact.point_distances(),
             };
             let reported = exact.reported(&discharges(&platoons), point.running);
@@ -216,7 +217,8 @@ fn check_exit_pairs(worked: &Worked, platoons: &[Platoon], j: usize) -> Result<(
         let flow = worked.working.flows[i][j];
         let pair = pair_arrivals(reported, flow, platoon.whole);
         let due = u64::from(flow) * total(reported);
-        if pair * platoon.whole > due || due - pair * platoon.whole >= platoon.whole {
+        let whole = u64::from(platoon.whole);
+        if pair * whole > due || due - pair * whole >= whole {
             return Err(format!("pair {i} {j} is off its share"));
         }
         expected += pair;
@@ -228,7 +230,7 @@ fn check_exit_pairs(worked: &Worked, platoons: &[Platoon], j: usize) -> Result<(
 }
 
 /// A pair's arrivals over the reported cycle, its share being `flow` of `whole`.
-fn pair_arrivals(reported: &[u32], flow: u32, whole: u64) -> u64 {
-    let mut share = PairShare::new(flow, (whole / u64::from(UNITS)) as u32);
+fn pair_arrivals(reported: &[u32], flow: u32, whole: u32) -> u64 {
+    let mut share = PairShare::new(flow, whole);
     reported.iter().map(|&a| u64::from(share.take(a))).sum()
 }

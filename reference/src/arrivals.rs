@@ -1,6 +1,5 @@
 //! Arrivals at the exits: pair shares, landing, exit figures, blocked steps.
 
-use crate::discharge::UNITS;
 use crate::greens::{turned, Green, Step};
 
 /// A step is blocked where flow·headway is above this.
@@ -22,12 +21,11 @@ pub struct PairShare {
 }
 
 impl PairShare {
-    /// `flow` of the entry's `volume`, which is not 0.
+    /// `flow` of the entry's discharge volume, which is not 0.
     pub fn new(flow: u32, volume: u32) -> PairShare {
-        let whole = u64::from(UNITS) * u64::from(volume);
         PairShare {
             flow: u64::from(flow),
-            whole,
+            whole: u64::from(volume),
             carry: 0,
         }
     }

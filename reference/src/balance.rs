@@ -1,7 +1,7 @@
 //! Balancing of discharge and exit volumes, and the pair flows.
-//! All in 64-bit floats, each operation rounded once, sums nested to the left.
+//! All in 64-bit floats of vehicles an hour, each operation rounded once, sums nested to the left.
+//! Discharge volumes come in thousandths, and each is divided once.
 
-use crate::discharge::UNITS;
 use crate::record::{Seeds, ACCESS, LEFT, RIGHT, THROUGH};
 use crate::refusal::{self, Refusal};
 
@@ -12,7 +12,7 @@ pub const SETTLED_BELOW: f64 = 1.0 / 100.0;
 
 /// Four floats, of the entries or of the exits, in the paper's order.
 pub type Four = [f64; 4];
-/// Flow units of the sixteen pairs (paper: v), a row for each entry.
+/// Flow units of the sixteen pairs (paper: v), a row for each entry that adds to its discharge volume.
 pub type PairFlows = [[u32; 4]; 4];
 
 /// The outcome with the last sum of differences reached.
@@ -82,7 +82,7 @@ fn finite(numbers: &Four) -> bool {
 
 impl Problem {
     fn new(discharge: &[u32; 4], exits: &[u32; 4], seeds: &Seeds) -> Problem {
-        let origins = discharge.map(f64::from);
+        let origins = discharge.map(|volume| f64::from(volume) / 1000.0);
         let volumes = exits.map(f64::from);
         let total = sum(|i| origins[i]);
         let exit_total = sum(|j| volumes[j]);
@@ -219,7 +219,7 @@ pub fn pair_flows(discharge: &[u32; 4], cells: &[Four; 4]) -> PairFlows {
 /// One entry's row: exits left, right, access in turn, then through takes what is left.
 fn entry_flows(discharge: u32, cells: &Four) -> [u32; 4] {
     let mut row = [0; 4];
-    let mut left_over = UNITS * discharge;
+    let mut left_over = discharge;
     for j in [LEFT, RIGHT, ACCESS] {
         row[j] = whole_part_or(cells[j] * 1000.0, left_over);
         left_over -= row[j];

@@ -1,15 +1,17 @@
 //! Discharge profiles of the signalised entries.
 
-use crate::metering::discharge_volume;
+use crate::metering::{discharge_volume, UNITS};
 use crate::record::{decode, Entry};
 use crate::refusal::{self, Refusal};
 
-/// Flow units (paper: grains) per step for one vehicle an hour.
-pub const UNITS: u32 = 1000;
-
 /// Flow units that one cycle carries (paper: T).
 pub fn cycle_units(volume: u32, cycle: u32) -> u64 {
-    u64::from(UNITS) * u64::from(volume) * u64::from(cycle)
+    u64::from(volume) * u64::from(cycle)
+}
+
+/// Of these flow units, those that arrive on green (paper: G), given its share in thousandths.
+pub fn green_units(total: u64, on_green: u32) -> u64 {
+    total * u64::from(on_green) / 1000
 }
 
 /// Of `on_green` flow units, those received by the end of green step `k` of `length`.
@@ -21,7 +23,7 @@ pub fn received_by(on_green: u64, k: u64, length: u32) -> u64 {
 pub fn fill_discharge(entry: &Entry, profile: &mut [u32]) {
     let cycle = profile.len() as u32;
     let total = cycle_units(discharge_volume(entry, cycle), cycle);
-    let on_green = total * u64::from(entry.on_green) / 1000;
+    let on_green = green_units(total, entry.on_green);
     let most = u64::from(UNITS) * u64::from(entry.saturation);
     let mut waiting = total - on_green;
     let mut before = 0;
@@ -43,7 +45,7 @@ pub fn entry_discharge(entry: &Entry, cycle: u32) -> Vec<u32> {
     profile
 }
 
-/// The discharge call: three profiles of C numbers to one profile; the three volumes.
+/// The discharge call: three profiles of C numbers to one profile; the three discharge volumes.
 pub fn discharge(bytes: &[u8], profile: &mut [u32]) -> Result<[u32; 3], Refusal> {
     let record = decode(bytes)?;
     let cycle = record.cycle as usize;

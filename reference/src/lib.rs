@@ -1,5 +1,5 @@
-//! Reference implementation of paper 01, and of the points, the repeating flow and the exam sheet of paper 02, written from the
-//! papers alone.
+//! Reference implementation of paper 01, and of the points, the repeating flow, the exam sheet and the capacity to the
+//! thousandth of paper 02, written from the papers alone.
 
 pub mod accuracy;
 pub mod archive;

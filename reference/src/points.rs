@@ -1,7 +1,6 @@
 //! Points along the segment (paper: driveways), and the working with them.
 
 use crate::arrivals::{blocked_steps, landed};
-use crate::discharge::UNITS;
 use crate::dispersion::{arrival_time, Ending, Link};
 use crate::record::{decode, Record, ACCESS, HEADWAYS, RUNNING_TIME_LEAST};
 use crate::refusal::{self, Refusal};
@@ -81,7 +80,7 @@ pub fn work_points_ending(
     let runs = passing.get_mut(..given.len() * cycle);
     let runs = runs.ok_or(refusal::PROFILE)?;
     let decision = decide(&record)?;
-    runs.fill(UNITS * decision.volumes[ACCESS]);
+    runs.fill(decision.volumes[ACCESS]);
     let add = |leaving: &[u32]| add_entry(leaving, given, ending, runs);
     let working = write(&record, &decision, ending, output, first, second, add);
     let blocked = blocked_at(given, runs, cycle);

@@ -1,6 +1,6 @@
 //! Sample records and points for tests and vectors.
 
-use crate::metering::discharge_volumes;
+use crate::metering::{capacity, discharge_volumes, UNITS};
 use crate::points::{Point, Points, POINTS_MOST};
 use crate::random::Random;
 use crate::record::{
@@ -109,19 +109,31 @@ pub fn random_street(random: &mut Random, cycle: u32, running_time: Option<u32>)
 }
 
 fn random_entry(random: &mut Random, cycle: u32) -> EntryFields {
-    let volume = match random.below(8) {
-        0 => 0,
-        1 => 6000,
-        _ => random.between(1, 2000),
-    };
     let saturation = match random.below(12) {
         0 => 0,
         1 => 12000,
+        2 => random.between(1, 100),
         _ => random.between(800, 6000),
     };
     let start = random.with_ends(0, cycle - 1);
     let length = random.with_ends(0, cycle);
+    let volume = match random.below(8) {
+        0 => 0,
+        1 => 6000,
+        _ => random_volume(random, capacity(saturation, length, cycle)),
+    };
     [volume, saturation, start, length, random.with_ends(0, 1000)]
+}
+
+/// A volume of an entry with this capacity: in one of eight the whole vehicles of it or one more or less, where a
+/// thousandth decides; in three of eight any above it; otherwise any.
+pub fn random_volume(random: &mut Random, capacity: u32) -> u32 {
+    let whole = (capacity / UNITS).min(5999);
+    match random.below(8) {
+        0 => random.between(whole.saturating_sub(1), whole + 1),
+        1..=3 => random.between(whole + 1, 6000),
+        _ => random.between(1, 2000),
+    }
 }
 
 /// Sixteen zeros in one of three; otherwise random rows that add to 100.
@@ -157,7 +169,7 @@ fn random_exits(random: &mut Random, bytes: &RecordBytes) -> [u32; 4] {
         let likely: u32 = (0..4)
             .map(|i| volumes[i] * u32::from(record.seeds[i][j]))
             .sum();
-        *exit = (likely / 100 * random.between(70, 140) / 100).min(12000);
+        *exit = (likely / (100 * UNITS) * random.between(70, 140) / 100).min(12000);
     }
     exits
 }

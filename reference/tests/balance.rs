@@ -21,7 +21,7 @@ fn random_inputs(random: &mut Random) -> Inputs {
     } else {
         [(); 4].map(|_| random_row(random))
     };
-    let discharge = [(); 4].map(|_| volume(random, 6000));
+    let discharge = [(); 4].map(|_| volume(random, 6_000_000));
     (discharge, [(); 4].map(|_| volume(random, 12000)), seeds)
 }
 
@@ -99,14 +99,14 @@ fn check_rows(discharge: &[u32; 4], cells: &[Four; 4]) {
 }
 
 fn check_row(row: &[u32; 4], discharge: u32, cells: &Four) {
-    assert_eq!(row.iter().sum::<u32>(), 1000 * discharge);
+    assert_eq!(row.iter().sum::<u32>(), discharge);
     let units = |j: usize| cells[j] * 1000.0;
     let mut others = [LEFT, RIGHT, ACCESS].into_iter();
     assert!(others.all(|j| f64::from(row[j]) <= units(j)));
     assert!(f64::from(row[THROUGH]) >= units(THROUGH) - 1.0);
 }
 
-/// Rows add to 1000·O and follow the cells.
+/// Rows add to O and follow the cells.
 #[test]
 fn rows_of_pair_flows() {
     let mut random = Random::new(22);
@@ -134,13 +134,22 @@ fn what_is_left_over() {
         [0, 3000, 0, 0],
         [0, 0, 0, 0],
     ];
-    assert_eq!(pair_flows(&[1, 1, 3, 0], &cells), expected);
+    assert_eq!(pair_flows(&[1000, 1000, 3000, 0], &cells), expected);
+    // what is not a whole vehicle an hour is shared, too
+    let expected = [
+        [797_142, 0, 0, 0],
+        [499, 0, 501, 9000],
+        [0, 4, 0, 0],
+        [1000, 0, 0, 0],
+    ];
+    let volumes = [797_142, 10_000, 4, 1000];
+    assert_eq!(pair_flows(&volumes, &cells), expected);
 }
 
 /// Through 10 and access 90 in and out: the sums of three rounds written out.
 #[test]
 fn last_sums_written_out() {
-    let volumes = [0, 10, 0, 90];
+    let (discharge, exits) = ([0, 10_000, 0, 90_000], [0, 10, 0, 90]);
     let (mut through, mut access) = (10.0, 90.0);
     for rounds in 1..=3 {
         let through_ratio = 10.0 / (through * 0.78 + access * 0.97);
@@ -148,7 +157,7 @@ fn last_sums_written_out() {
         let new_through = 10.0 / (through_ratio * 0.78 + access_ratio * 0.02);
         let new_access = 90.0 / (through_ratio * 0.97);
         let sum = (through - new_through) + (new_access - access);
-        let result = balance(&volumes, &volumes, &DEFAULT_SEEDS, rounds);
+        let result = balance(&discharge, &exits, &DEFAULT_SEEDS, rounds);
         assert_eq!(
             (result.outcome, result.rounds),
             (Outcome::Unsettled(sum), rounds)
@@ -181,7 +190,7 @@ fn refused_volumes() {
 #[test]
 fn one_entry_settles_at_once() {
     let result = balance(
-        &[0, 0, 0, 360],
+        &[0, 0, 0, 360_000],
         &[0, 360, 0, 0],
         &DEFAULT_SEEDS,
         ROUND_LIMIT,

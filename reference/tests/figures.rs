@@ -65,7 +65,7 @@ fn platoon_arrival_time() {
 
 #[test]
 fn capacity_and_green_arrivals() {
-    assert_eq!(capacity(1800, 31, 70), 797);
+    assert_eq!(capacity(1800, 31, 70), 797_142);
     let by = |k| received_by(10, k, 4);
     assert_eq!([1, 2, 3, 4].map(|k| by(k) - by(k - 1)), [2, 3, 2, 3]);
 }
@@ -80,7 +80,8 @@ fn discharge_of_the_example() {
         expected[60 * i + 15..60 * i + 30].fill(600_000);
         expected[180] = 7;
         assert_eq!(profile, expected);
-        assert_eq!((volumes[i], volumes.iter().sum::<u32>()), (600, 600));
+        let of_three = volumes.iter().sum::<u32>();
+        assert_eq!((volumes[i], of_three), (600_000, 600_000));
     }
 }
 
@@ -100,7 +101,7 @@ fn first_two_arrivals() {
 
 #[test]
 fn a_third_of_one_one_one() {
-    let mut share = PairShare::new(1000, 3);
+    let mut share = PairShare::new(1, 3);
     assert_eq!([1, 1, 1].map(|arrival| share.take(arrival)), [0, 0, 1]);
 }
 
@@ -133,11 +134,11 @@ fn default_rows_add_to_100() {
 
 #[test]
 fn unsettled_and_unserved() {
-    let volumes = [0, 10, 0, 90];
-    let result = balance(&volumes, &volumes, &DEFAULT_SEEDS, ROUND_LIMIT);
+    let (discharge, exits) = ([0, 10_000, 0, 90_000], [0, 10, 0, 90]);
+    let result = balance(&discharge, &exits, &DEFAULT_SEEDS, ROUND_LIMIT);
     assert!(matches!(result.outcome, Outcome::Unsettled(_)));
-    let access = [0, 0, 0, 90];
-    assert_eq!(check_volumes(&access, &access, &DEFAULT_SEEDS), Err(14));
+    let (discharge, exits) = ([0, 0, 0, 90_000], [0, 0, 0, 90]);
+    assert_eq!(check_volumes(&discharge, &exits, &DEFAULT_SEEDS), Err(14));
 
     let mut record = plain_record();
     put(&mut record, 20, 10);

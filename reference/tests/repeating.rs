@@ -1,7 +1,7 @@
 //! The repeating flow is what it should be, in whole numbers, and the working's numbers are near to it.
 
 use reference::arrivals::PairShare;
-use reference::discharge::{entry_discharge, UNITS};
+use reference::discharge::entry_discharge;
 use reference::dispersion::{denominator, disperse, Ending, CYCLES, NUMERATOR};
 use reference::exact::{from_empty, repeating, ExactArrivals};
 use reference::metering::discharge_volume;
@@ -109,10 +109,10 @@ fn check_near(random: &mut Random, leaving: &[u32], volume: u32, running_time: u
     let arrivals = reported(leaving, running_time);
     let flow = repeating(&[leaving], running_time);
     assert!(near(&arrivals, &flow, 1, 2));
-    let pair = random.with_ends(0, UNITS * volume);
+    let pair = random.with_ends(0, volume);
     let mut share = PairShare::new(pair, volume);
     let shared: Vec<u32> = arrivals.iter().map(|&a| share.take(a)).collect();
-    let whole = u64::from(UNITS) * u64::from(volume);
+    let whole = u64::from(volume);
     let flow: Vec<ExactArrivals> = flow.into_iter().map(|y| y.divided(&[whole])).collect();
     assert!(near(&shared, &flow, u64::from(pair), 3));
 }

@@ -63,6 +63,7 @@ pub struct PointWorkAnswer {
     pub blocked: [u32; 8],
 }
 
+/// Discharge volumes in thousandths of a vehicle an hour.
 #[repr(C)]
 #[derive(Clone, Copy)]
 pub struct VolumesAnswer {

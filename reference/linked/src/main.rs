@@ -19,9 +19,9 @@ use crate::same::{same_list, Same, Tally};
 use crate::sheets::compare_sheet;
 
 const SEED: u64 = 0x11_47ed;
-const RECORDS: u32 = 2000 * KINDS;
-const POINTS: u32 = 800 * KINDS;
-const SHEETS: u32 = 340 * KINDS;
+const RECORDS: u32 = 1760 * KINDS;
+const POINTS: u32 = 700 * KINDS;
+const SHEETS: u32 = 300 * KINDS;
 const ARCHIVES: u32 = 2400;
 
 /// What a call on a record can answer, with points and with a page too, and what the calls on archives can.

@@ -2,15 +2,17 @@
 
 use reference::arrivals::ExitFigures;
 use reference::discharge::discharge;
+use reference::metering::capacity;
 use reference::random::Random;
 use reference::record::{
     ACCESS_AT, CYCLE_LEAST, CYCLE_MOST, HEADWAY_AT, RECORD_BYTES, RUNNING_TIME_AT,
 };
 use reference::samples::{
     busy, put_downstream, put_entry, put_exits, put_seeds, put_u16, put_u32, quiet, random_record,
-    random_seeds,
+    random_seeds, random_volume,
 };
 use reference::vectors::faults::{fault_pairs, faults};
+use reference::vectors::metered::{random_little, random_whole_cells};
 use reference::vectors::{profile_before, FIRST_BEFORE, OUTPUT_BEFORE, SECOND_BEFORE};
 use reference::working::{work, Refused, Working};
 
@@ -25,7 +27,7 @@ type Lengths = [usize; 4];
 /// Output, first and second.
 pub type Profiles = [Vec<u32>; 3];
 
-pub const KINDS: u32 = 12;
+pub const KINDS: u32 = 14;
 
 pub fn compare_record(random: &mut Random, n: u32, tally: &mut Tally) -> Same {
     let cycle = cycle(random, n);
@@ -57,6 +59,8 @@ pub fn record(random: &mut Random, kind: u32, cycle: u32) -> Vec<u8> {
         5 => other_length(random, cycle),
         6 => random.bytes(RECORD_BYTES),
         7 => quiet(cycle).to_vec(),
+        8 => random_little(random, cycle).to_vec(),
+        9 => random_whole_cells(random, cycle).to_vec(),
         _ => random_record(random, cycle).to_vec(),
     }
 }
@@ -73,8 +77,8 @@ fn wrapped(random: &mut Random, cycle: u32) -> Bytes {
     let mut record = random_record(random, cycle);
     for i in 0..3 {
         let (start, length) = past_end(random, cycle);
-        let volume = random.between(50, 1500);
         let saturation = random.between(1200, 5000);
+        let volume = random_volume(random, capacity(saturation, length, cycle));
         let entry = [volume, saturation, start, length, random.below(1001)];
         put_entry(&mut record, i, entry);
     }
@@ -97,10 +101,12 @@ fn extreme(random: &mut Random, cycle: u32) -> Bytes {
         let volume = random.pick(&[6000, 6000, 1, 0]);
         let start = random.pick(&[0, cycle - 1]);
         let length = random.pick(&[cycle, cycle, 1, 0]);
+        let saturation = random.pick(&[12000, 12000, 12000, 1]);
+        let on_green = random.pick(&[0, 999, 1000]);
         put_entry(
             &mut record,
             i,
-            [volume, 12000, start, length, random.pick(&[0, 1000])],
+            [volume, saturation, start, length, on_green],
         );
     }
     put_u16(&mut record, ACCESS_AT, random.pick(&[6000, 6000, 1, 0]));

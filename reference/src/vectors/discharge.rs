@@ -1,17 +1,16 @@
 //! Vectors of the discharge call.
 
 use super::faults::{fault_pairs, faults, Fault};
+use super::metered::{at_capacity, cut_records, little_alone, order_records, random_of_kind};
 use super::range_ends::{
     green_ends, headway_ends, number_ends, running_time_ends, seed_ends, volume_ends,
 };
 use super::{product, profile_before, Body, File, OUTPUT_BEFORE};
 use crate::discharge::discharge;
 use crate::random::Random;
-use crate::record::{ACCESS_AT, CYCLE_LEAST, CYCLE_MOST};
+use crate::record::{read_u16, ACCESS_AT, CYCLE_AT, CYCLE_LEAST, CYCLE_MOST};
 use crate::refusal::GREEN;
-use crate::samples::{
-    busy, put_entry, put_exits, put_seeds, put_u16, quiet, random_record, RecordBytes,
-};
+use crate::samples::{busy, put_entry, put_exits, put_seeds, put_u16, quiet, RecordBytes};
 
 const SEED: u64 = 0x0101_d15c;
 
@@ -21,6 +20,7 @@ pub fn file() -> File {
     add_range_ends(&mut file);
     add_extremes(&mut file);
     add_greens(&mut file);
+    add_metered(&mut file);
     add_refused_by_volume(&mut file);
     add_faults(&mut file);
     add_random(&mut file);
@@ -136,6 +136,19 @@ fn add_greens(file: &mut File) {
     add_full(file, 60, &example);
 }
 
+/// Volumes about the capacity, discharges under one vehicle an hour, and those that show how G is cut.
+fn add_metered(file: &mut File) {
+    let records = [
+        at_capacity(),
+        little_alone(),
+        cut_records(),
+        order_records(),
+    ];
+    for record in records.concat() {
+        add_full(file, read_u16(&record, CYCLE_AT), &record);
+    }
+}
+
 /// Records that the working refuses with 13, 14 and 15, and this call does not.
 fn add_refused_by_volume(file: &mut File) {
     for record in refused_by_volume() {
@@ -213,7 +226,7 @@ fn add_random(file: &mut File) {
             2 => CYCLE_LEAST,
             _ => random.between(30, 90),
         };
-        let record = random_record(&mut random, cycle);
+        let record = random_of_kind(&mut random, n, cycle);
         let longer = if n % 5 == 0 {
             random.below(20) as usize
         } else {

@@ -3,8 +3,11 @@
 pub mod archive;
 pub mod balance;
 pub mod balance_cases;
+pub mod cuts;
 pub mod discharge;
 pub mod faults;
+pub mod metered;
+pub mod metered_cases;
 pub mod orders;
 pub mod points;
 pub mod range_ends;

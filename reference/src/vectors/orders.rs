@@ -17,6 +17,10 @@ pub enum Order {
     SeedTimes,
     /// Products and sums fused.
     Fused,
+    /// The discharge volumes added in thousandths, and the sum divided by 1000.
+    WholeTotal,
+    /// thousandths · 0.001 for thousandths / 1000.
+    ThousandthTimes,
 }
 
 pub const OTHER_ORDERS: [Order; 5] = [
@@ -26,6 +30,9 @@ pub const OTHER_ORDERS: [Order; 5] = [
     Order::SeedTimes,
     Order::Fused,
 ];
+
+/// What an order of its own does with the thousandths of a discharge volume.
+pub const THOUSANDTH_ORDERS: [Order; 2] = [Order::WholeTotal, Order::ThousandthTimes];
 
 impl Order {
     fn sum(self, [a, b, c, d]: Four) -> f64 {
@@ -41,6 +48,22 @@ impl Order {
             return (1..4).fold(first, |sum, n| left[n].mul_add(right[n], sum));
         }
         self.sum([0, 1, 2, 3].map(|n| left[n] * right[n]))
+    }
+
+    /// A discharge volume in vehicles an hour.
+    fn origin(self, thousandths: u32) -> f64 {
+        match self {
+            Order::ThousandthTimes => f64::from(thousandths) * 0.001,
+            _ => f64::from(thousandths) / 1000.0,
+        }
+    }
+
+    /// The total discharge in vehicles an hour.
+    fn total(self, discharge: &[u32; 4]) -> f64 {
+        match self {
+            Order::WholeTotal => self.sum(discharge.map(f64::from)) / 1000.0,
+            _ => self.sum(discharge.map(|volume| self.origin(volume))),
+        }
     }
 
     fn seed(self, hundredths: u8) -> f64 {
@@ -82,9 +105,9 @@ pub fn flows(
     seeds: &Seeds,
 ) -> Option<PairFlows> {
     const ALL: [usize; 4] = [0, 1, 2, 3];
-    let origins = discharge.map(f64::from);
+    let origins = discharge.map(|volume| order.origin(volume));
     let volumes = exits.map(f64::from);
-    let (total, exit_total) = (order.sum(origins), order.sum(volumes));
+    let (total, exit_total) = (order.total(discharge), order.sum(volumes));
     let targets = volumes.map(|volume| order.exit(volume, total, exit_total));
     let shares = seeds.map(|row| row.map(|seed| order.seed(seed)));
     let mut old = origins;

@@ -2,6 +2,7 @@
 
 use super::discharge::refused_by_volume;
 use super::faults::{fault_pairs, faults};
+use super::metered::{cut_records, little_alone, little_served, order_records, random_of_kind};
 use super::rest::by_rest;
 use super::working::{fullest, long_record, with_idle_entries};
 use super::{product, profile_before, Body, File, ARRIVAL_TURNS, BLOCKING_EDGES};
@@ -305,14 +306,25 @@ fn add_idle_entries(file: &mut File) {
     }
 }
 
-/// Entries of more volume than capacity: each, then all.
+/// Entries of more volume than capacity: each, then all; of very little capacity; and some that tell orders and cuts apart.
 fn add_metered(file: &mut File) {
     for metered in [&[0][..], &[1], &[2], &[0, 1, 2]] {
         let mut record = busy(CYCLE_LEAST);
         for &i in metered {
-            put_entry(&mut record, i, [1500, 1700, 26, 9, 250]);
+            put_entry(&mut record, i, [1500, 1777, 26, 9, 250]);
         }
         add_exact(file, CYCLE_LEAST, &record, &first_points(4));
+    }
+    let little = little_alone();
+    let short = |record: &&RecordBytes| read_u16(&record[..], CYCLE_AT) == CYCLE_LEAST;
+    for record in little.iter().filter(short).chain(&little_served()) {
+        add_exact(file, CYCLE_LEAST, record, &first_points(2));
+    }
+    let (orders, cuts) = (order_records(), cut_records());
+    for record in orders.iter().step_by(6).chain(cuts.iter().step_by(16)) {
+        let mut points = first_points(1);
+        points.at[0].running = running_time(record).min(points.at[0].running);
+        add_exact(file, read_u16(record, CYCLE_AT), record, &points);
     }
 }
 
@@ -366,9 +378,9 @@ fn add_random(file: &mut File) {
 /// Many more of short cycles, so that the file stays small; some point profiles are short by one.
 fn add_short_cycles(file: &mut File) {
     let mut random = Random::new(SEED + 1);
-    for n in 0..240 {
+    for n in 0..235 {
         let cycle = random.between(CYCLE_LEAST, 44);
-        let record = random_record(&mut random, cycle);
+        let record = random_of_kind(&mut random, n, cycle);
         let points = random_points(&mut random, running_time(&record));
         let mut lengths = exact(cycle, points.count);
         if n % 12 == 0 {

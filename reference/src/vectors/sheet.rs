@@ -3,6 +3,7 @@
 use super::balance_cases::BY_ROUNDS;
 use super::discharge::refused_by_volume;
 use super::faults::faults;
+use super::metered::{cut_records, little_alone, order_records};
 use super::rest::late_to_rest;
 use super::working::{balance_record, example, fullest, long_record, with_idle_entries};
 use super::{buffer_before, product, profile_before, Body, File};
@@ -76,6 +77,7 @@ pub fn file() -> File {
     add_all_exact(&mut file, &longest());
     add_all_exact(&mut file, &by_digits());
     add_all_exact(&mut file, &[0, 1, 2, 6].map(with_idle_entries));
+    add_all_exact(&mut file, &metered());
     let late: Vec<RecordBytes> = late_to_rest().into_iter().step_by(4).collect();
     add_all_exact(&mut file, &late);
     add_cycles(&mut file);
@@ -283,6 +285,14 @@ fn by_digits() -> Vec<RecordBytes> {
     let few = BY_ROUNDS.iter().step_by(4);
     records.extend(few.map(|(_, inputs)| balance_record(CYCLE_LEAST, inputs)));
     records
+}
+
+/// Discharges that are not whole vehicles an hour, or under one, and some that show how G is cut.
+fn metered() -> Vec<RecordBytes> {
+    let by_order = order_records().into_iter().step_by(3);
+    let little = little_alone().into_iter().step_by(7);
+    let by_cut = cut_records().into_iter().step_by(8);
+    by_order.chain(little).chain(by_cut).collect()
 }
 
 /// Rows of every length, by a busy record and by a random one.

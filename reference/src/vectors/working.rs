@@ -3,18 +3,22 @@
 use super::balance_cases::{Inputs, BY_ROUNDS, BY_STOP};
 use super::discharge::refused_by_volume;
 use super::faults::{fault_pairs, faults, Fault};
+use super::metered::{
+    at_capacity, cut_records, little_alone, little_served, order_records, random_of_kind,
+};
 use super::range_ends::{green_ends, headway_ends, number_ends, volume_ends};
 use super::rest::by_rest;
 use super::{product, profile_before, Body, File};
 use super::{ARRIVAL_TURNS, BLOCKING_EDGES, FIRST_BEFORE, OUTPUT_BEFORE, SECOND_BEFORE};
 use crate::arrivals::ExitFigures;
+use crate::metering::{capacity, UNITS};
 use crate::random::Random;
 use crate::record::{
     read_u16, ACCESS, ACCESS_AT, CYCLE_AT, CYCLE_LEAST, CYCLE_MOST, HEADWAY_AT, RUNNING_TIME_AT,
 };
 use crate::samples::{
     busy, put_downstream, put_entry, put_exits, put_seeds, put_u16, put_u32, quiet, random_record,
-    RecordBytes,
+    random_volume, RecordBytes,
 };
 use crate::working::{work, Working};
 use std::iter::repeat_with;
@@ -49,6 +53,7 @@ pub fn file() -> File {
     add_extremes(&mut file);
     add_idle_entries(&mut file);
     add_balances(&mut file);
+    add_metered(&mut file);
     add_by_rest(&mut file);
     add_random(&mut file);
     add_short_cycles(&mut file);
@@ -149,16 +154,14 @@ fn add_refused_by_volume(file: &mut File) {
 }
 
 /// No discharge by no saturation and by no green, though volumes are given.
-fn more_without_volume() -> [RecordBytes; 3] {
+fn more_without_volume() -> [RecordBytes; 2] {
     let mut no_saturation = busy(CYCLE_LEAST);
     let mut no_green = busy(CYCLE_LEAST);
-    let mut too_little = busy(CYCLE_LEAST);
     for i in 0..3 {
         put_entry(&mut no_saturation, i, [500, 0, 3, 10, 500]);
         put_entry(&mut no_green, i, [500, 1800, 3, 0, 500]);
-        put_entry(&mut too_little, i, [500, 29, 3, 1, 500]);
     }
-    [no_saturation, no_green, too_little].map(|mut record| {
+    [no_saturation, no_green].map(|mut record| {
         put_u16(&mut record, ACCESS_AT, 0);
         record
     })
@@ -287,20 +290,30 @@ fn add_balances(file: &mut File) {
     }
 }
 
-/// A record that discharges as the balance says, where its greens have the capacity.
+/// A record that discharges as the balance says, in whole vehicles an hour, where its greens have the capacity.
 pub(super) fn balance_record(cycle: u32, (discharge, exits, seeds): &Inputs) -> RecordBytes {
     let mut record = quiet(cycle);
     for i in 0..3u32 {
         put_entry(
             &mut record,
             i as usize,
-            [discharge[i as usize], 12000, 7 * i, 15 + i, 300 * i],
+            [discharge[i as usize] / UNITS, 12000, 7 * i, 15 + i, 300 * i],
         );
     }
-    put_u16(&mut record, ACCESS_AT, discharge[ACCESS]);
+    put_u16(&mut record, ACCESS_AT, discharge[ACCESS] / UNITS);
     put_exits(&mut record, *exits);
     put_seeds(&mut record, seeds);
     record
+}
+
+/// Volumes about the capacity, discharges under one vehicle an hour, those that show how G is cut, and those that tell
+/// the orders of the operations on their thousandths apart.
+fn add_metered(file: &mut File) {
+    let little = [little_alone(), little_served().to_vec()].concat();
+    let records = [at_capacity(), little, cut_records(), order_records()];
+    for record in records.concat() {
+        add_exact(file, read_u16(&record, CYCLE_AT), &record);
+    }
 }
 
 /// Links that come to rest late and soon.
@@ -335,9 +348,9 @@ fn add_random(file: &mut File) {
 /// Many more of short cycles, so that the file stays small.
 fn add_short_cycles(file: &mut File) {
     let mut random = Random::new(SEED + 2);
-    for _ in 0..1460 {
+    for n in 0..1460 {
         let cycle = random.between(CYCLE_LEAST, 44);
-        add_exact(file, cycle, &random_record(&mut random, cycle));
+        add_exact(file, cycle, &random_of_kind(&mut random, n, cycle));
     }
 }
 
@@ -350,14 +363,14 @@ fn add_long(file: &mut File) {
     }
 }
 
-pub(super) fn long_record(random: &mut Random) -> RecordBytes {
+pub fn long_record(random: &mut Random) -> RecordBytes {
     let mut record = random_record(random, CYCLE_MOST);
     put_u32(&mut record, RUNNING_TIME_AT, 300_000);
     for i in 0..3 {
         let start = random.between(120, 239);
         let length = random.between(CYCLE_MOST - start + 1, CYCLE_MOST);
-        let volume = random.between(50, 1500);
         let saturation = random.between(1200, 5000);
+        let volume = random_volume(random, capacity(saturation, length, CYCLE_MOST));
         let on_green = random.below(1001);
         put_entry(
             &mut record,
