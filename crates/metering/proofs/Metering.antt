@@ -1,5 +1,5 @@
 -- Laws of specs/Metering.antt: Metering, item 1: what each entry discharges, in thousandths of a vehicle an hour.
-use Rattle.std.specs.Prelude.{ℕ, ◌*◌, ◌/◌, min, ◌≤◌}
+use Rattle.std.specs.Prelude.{ℕ, ◌*◌, ◌/◌, ◌≤◌}
 use Rattle.std.proofs.Common.{arith, div-mul-le_self, mul-le-mul_right}
 use Rattle.movements.specs.Movements.{flow_units}
 use Rattle.segment.specs.declared.Entry.{Entry}
@@ -11,7 +11,7 @@ unfolding discharge_volume capacity
 discharge_volume_served c e =
     let all = flow_units e.saturation * e.green.steps in
     let q = all / c in
-    let m : min q (flow_units e.volume) ≤ q = omega arith in
+    let m : discharge_volume c e ≤ q = omega arith in
     omega (arith, mul-le-mul_right c m, div-mul-le_self all c)
 
 pub discharge_volume_entry : (c : ℕ) (e : Entry) → discharge_volume c e ≤ flow_units e.volume
