@@ -40,6 +40,14 @@ fn busy() -> [u8; 68] {
     r
 }
 
+// A cycle of 70: of the 900 veh/h its green of 31 steps serves 797.142, the paper's capacity.
+fn metered() -> [u8; 68] {
+    let mut r = busy();
+    r[4] = 70;
+    r[25] = 31;
+    r
+}
+
 fn say(rt: &impl Print, label: &str, n: u64) -> io::Result<()> {
     println!(rt; "{label} {n}")
 }
@@ -121,7 +129,7 @@ fn discharge_of(rt: &impl Print, record: &[u8]) -> io::Result<()> {
     tell(
         rt,
         answer,
-        |o| say(rt, "through discharges", u64::from(o.through)),
+        |o| say(rt, "through discharges, in thousandths of veh/h:", u64::from(o.through)),
     )
 }
 
@@ -179,7 +187,7 @@ fn main(rt: HostRuntime) -> io::Result<()> {
     let r = record();
     check(&rt, &r)?;
     file(&rt, &r)?;
-    discharge_of(&rt, &r)?;
+    discharge_of(&rt, &metered())?;
     work(&rt, &r)?;
     print_sheet(&rt, &r)?;
     let b = busy();
