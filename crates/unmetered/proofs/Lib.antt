@@ -1,0 +1,3 @@
+pub mod Volumes
+pub mod Whole
+pub mod Unmetered

@@ -1,0 +1,90 @@
+-- The working as paper 01 has it, with capacity cut to whole veh/h: only what the theorem compares with.
+use Rattle.std.specs.Prelude.{ℕ, ◌*◌, ◌/◌, min, ◌||◌, not, List, Result, Ok, Err}
+use Rattle.refusal.specs.declared.Refusal.TheVariants.{NoVolume, Unserved}
+use Rattle.refusal.specs.Refusal.{Or, need}
+use Rattle.movements.specs.PerMovement.{Counts, Seeds}
+use Rattle.movements.specs.Movements.{flow_units}
+use Rattle.segment.specs.declared.Entry.{Entry}
+use Rattle.segment.specs.declared.Segment.{Segment}
+use Rattle.balance_volumes.specs.Volumes.{exit_floats, proportions, destination_volumes}
+use Rattle.balance.specs.declared.Balance.{Balance}
+use Rattle.balance.specs.Settling.{round_limit, settle}
+use Rattle.balance_refusals.specs.Refusals.{no_volume, any_unserved_entry, any_unserved_exit}
+use Rattle.balance_decision.specs.declared.Decision.{Decision}
+use Rattle.balance_decision.specs.declared.Unworked.{Unworked}
+use Rattle.balance_decision.specs.declared.Unworked.TheVariants.{Refused}
+use Rattle.balance_decision.specs.Unworked.{work_on}
+use Rattle.balance_decision.specs.Decision.{settled_to}
+use Rattle.platoon.specs.Discharge.{profile_of}
+use Rattle.propagation.specs.Propagation.{Profiles}
+use Rattle.working.specs.Working.{accept_of, Called, called, by_decision}
+
+-- the whole part of saturation·g/c, in veh/h
+abbrev pub whole_capacity : ℕ → Entry → ℕ
+whole_capacity c e = e.saturation * e.green.steps / c
+
+-- O: the smaller of it and the volume
+abbrev pub whole_volume : ℕ → Entry → ℕ
+whole_volume c e = min e.volume (whole_capacity c e)
+
+-- access discharges its volume
+unfoldable pub whole_volumes : Segment → Counts
+whole_volumes s =
+    record {
+      left = whole_volume s.cycle s.left;
+      through = whole_volume s.cycle s.through;
+      right = whole_volume s.cycle s.right;
+      access = s.access;
+    }
+
+-- 1000·O of each entry
+unfoldable pub in_units : Counts → Counts
+in_units o = record { left = flow_units o.left; through = flow_units o.through; right = flow_units o.right; access = flow_units o.access }
+
+-- the floats are O itself
+unfoldable pub whole_balanced : Counts → Counts → Seeds → Balance
+whole_balanced o exits seeds =
+    let origins = exit_floats o in
+    settle round_limit origins (destination_volumes origins (exit_floats exits)) (proportions seeds)
+
+-- 13 and 14 test O, and each row of pair flows adds to 1000·O
+unfoldable pub whole_decision : Counts → Counts → Seeds → Result Decision Unworked
+whole_decision o exits seeds =
+    work_on
+    (need NoVolume (not (no_volume o exits))
+    (need Unserved (not (any_unserved_entry o exits seeds || any_unserved_exit o exits seeds))
+    (Ok (whole_balanced o exits seeds))))
+    (settled_to (in_units o))
+
+-- an entry's profile at O veh/h: a cycle carries 1000·O·C
+abbrev pub profile_at : ℕ → Entry → ℕ → List ℕ
+profile_at c e o = profile_of c e.green e.saturation e.arriving (flow_units o)
+
+-- the entry that brings no more than O: it discharges 1000·O, and its profile is the one at O
+abbrev pub whole_entry : ℕ → Entry → Entry
+whole_entry c e = record { volume = whole_volume c e; saturation = e.saturation; green = e.green; arriving = e.arriving }
+
+-- a record of such entries, so that the profiles are filled from O
+unfoldable pub whole_segment : Segment → Segment
+whole_segment s =
+    record {
+      cycle = s.cycle;
+      running = s.running;
+      headway = s.headway;
+      left = whole_entry s.cycle s.left;
+      through = whole_entry s.cycle s.through;
+      right = whole_entry s.cycle s.right;
+      access = s.access;
+      exits = s.exits;
+      downstream = s.downstream;
+      seeds = s.seeds;
+    }
+
+-- what is accepted is decided and filled from O
+abbrev pub whole_by_record : Or Segment → Profiles → Called
+whole_by_record (Err refusal) p = called (Err (Refused refusal)) p
+whole_by_record (Ok s) p = by_decision (whole_segment s) (whole_decision (whole_volumes s) s.exits s.seeds) p
+
+-- the call: the same refusals of the record and of the profiles' lengths
+unfoldable pub whole_call_of : List ℕ → Profiles → Called
+whole_call_of l p = whole_by_record (accept_of l p) p
