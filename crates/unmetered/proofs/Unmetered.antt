@@ -18,7 +18,11 @@ use Rattle.balance_decision.specs.declared.Unworked.{Unworked}
 use Rattle.propagation.specs.Propagation.{Profiles}
 use Rattle.working_outcome.specs.declared.Working.{Working}
 use Rattle.working.specs.Working.{accept_of, decision_for, called, call_of, Works}
-use Rattle.unmetered.specs.Whole.{whole_volume, whole_volumes, in_units, whole_decision, whole_entry, whole_segment, whole_by_record, whole_call_of}
+use Rattle.points.specs.declared.Points.{Points}
+use Rattle.point_working.specs.declared.PointWorking.{PointWorking}
+use Rattle.point_working.specs.PointWorking.{point_called, point_call_of, PointWorks}
+use Rattle.point_working.specs.PointWorking as point
+use Rattle.unmetered.specs.Whole.{whole_volume, whole_volumes, in_units, whole_decision, whole_entry, whole_segment, whole_by_record, whole_call_of, whole_points, whole_point_call_of}
 use Rattle.unmetered.specs.Unmetered.{EntryUnmetered, Unmetered, OfWhole, EntriesOfWhole}
 use Rattle.unmetered.proofs.Volumes.{Small, whole_decided}
 use Rattle.unmetered.proofs.Whole.{whole_capacity_le, whole_discharge, whole_profile, whole_discharges}
@@ -89,6 +93,19 @@ unfolding call_of whole_call_of
 unmetered_keeps l p r p' w u = w.is ∙ go (accept_of l p) refl
   where
     go : (x : Or Segment) → accept_of l p ≡ x → call_of l p ≡ whole_by_record x p
+    go (Err n) e = rw e
+    go (Ok s) e =
+        let a = (accept_passed l _ s e).0 in
+        let us : Unmetered s = (rw (← a.is) at u) in
+        rw (e, unmetered_same s us, unmetered_decision s us a.ranges)
+
+-- with points: its answer and all four
+pub unmetered_points_keep : (l : List ℕ) (ps : Points) (p : Profiles) (q : List ℕ) (r : Result PointWorking Unworked) (p' : Profiles) (q' : List ℕ) →
+    PointWorks l ps p q r p' q' → Unmetered (segment_of l) → point_called r p' q' ≡ whole_point_call_of l ps p q
+unfolding point_call_of whole_point_call_of
+unmetered_points_keep l ps p q r p' q' w u = w.is ∙ go (point.accept_of l ps p (length q)) refl
+  where
+    go : (x : Or Segment) → point.accept_of l ps p (length q) ≡ x → point_call_of l ps p q ≡ whole_points x ps p q
     go (Err n) e = rw e
     go (Ok s) e =
         let a = (accept_passed l _ s e).0 in

@@ -1,5 +1,5 @@
--- The working as paper 01 has it, with capacity cut to whole veh/h: only what the theorem compares with.
-use Rattle.std.specs.Prelude.{ℕ, ◌*◌, ◌/◌, min, ◌||◌, not, List, Result, Ok, Err}
+-- The working as it was before request 4, with capacity cut to whole veh/h: only what the theorem compares with.
+use Rattle.std.specs.Prelude.{ℕ, ◌*◌, ◌/◌, min, ◌||◌, not, List, length, Result, Ok, Err}
 use Rattle.refusal.specs.declared.Refusal.TheVariants.{NoVolume, Unserved}
 use Rattle.refusal.specs.Refusal.{Or, need}
 use Rattle.movements.specs.PerMovement.{Counts, Seeds}
@@ -18,6 +18,9 @@ use Rattle.balance_decision.specs.Decision.{settled_to}
 use Rattle.platoon.specs.Discharge.{profile_of}
 use Rattle.propagation.specs.Propagation.{Profiles}
 use Rattle.working.specs.Working.{accept_of, Called, called, by_decision}
+use Rattle.points.specs.declared.Points.{Points}
+use Rattle.point_working.specs.PointWorking.{PointCalled, point_called, with_points}
+use Rattle.point_working.specs.PointWorking as point
 
 -- the whole part of saturation·g/c, in veh/h
 abbrev pub whole_capacity : ℕ → Entry → ℕ
@@ -81,10 +84,21 @@ whole_segment s =
     }
 
 -- what is accepted is decided and filled from O
+abbrev pub whole_worked : Segment → Profiles → Called
+whole_worked s p = by_decision (whole_segment s) (whole_decision (whole_volumes s) s.exits s.seeds) p
+
 abbrev pub whole_by_record : Or Segment → Profiles → Called
 whole_by_record (Err refusal) p = called (Err (Refused refusal)) p
-whole_by_record (Ok s) p = by_decision (whole_segment s) (whole_decision (whole_volumes s) s.exits s.seeds) p
+whole_by_record (Ok s) p = whole_worked s p
 
 -- the call: the same refusals of the record and of the profiles' lengths
 unfoldable pub whole_call_of : List ℕ → Profiles → Called
 whole_call_of l p = whole_by_record (accept_of l p) p
+
+-- with points: the same refusals likewise, and what passes each point is filled from O
+abbrev pub whole_points : Or Segment → Points → Profiles → List ℕ → PointCalled
+whole_points (Err refusal) ps p q = point_called (Err (Refused refusal)) p q
+whole_points (Ok s) ps p q = with_points (whole_segment s) ps (whole_worked s p) q
+
+unfoldable pub whole_point_call_of : List ℕ → Points → Profiles → List ℕ → PointCalled
+whole_point_call_of l ps p q = whole_points (point.accept_of l ps p (length q)) ps p q
