@@ -14,7 +14,8 @@ use Rattle.balance.specs.Settling.{round_limit, balanced}
 use Rattle.balance.proofs.Ending.{balanced_rounds}
 use Rattle.lists.specs.Lists.{sum}
 use Rattle.pair_flows.specs.Pairs.{pair_flows}
-use Rattle.balance_pairs.specs.Pairs.{pair_rows, rows_add}
+use Rattle.balance_pairs.specs.Pairs.{pair_rows}
+use Rattle.balance_pairs.proofs.Pairs.{rows_add}
 use Rattle.balance_decision.specs.declared.Decision.{Decision}
 use Rattle.balance_decision.specs.declared.Unworked.{Unworked}
 use Rattle.balance_decision.specs.declared.Unworked.TheVariants.{Refused, Unsettled}

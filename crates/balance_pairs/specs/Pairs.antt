@@ -1,5 +1,5 @@
 -- The pair flows of each entry: item 5 of "Metering and shares".
-use Rattle.std.specs.Prelude.{◌≡◌, ℕ, ◌-◌, ◌*◌, ◌/◌, ◌≤◌, min, true, false, cond, List, [], ◌∷◌, map, Float}
+use Rattle.std.specs.Prelude.{◌≡◌, ℕ, ◌-◌, ◌*◌, ◌/◌, ◌≤◌, min, true, false, cond, List, [], ◌∷◌, Float}
 use Rattle.std.proofs.Common.{zero-le, le_refl, arith}
 use Rattle.std.proofs.Math.Nat.{min-le_right}
 use Rattle.std.specs.Float.{nan, inf, fin}
@@ -54,14 +54,3 @@ row_adds_lem c all =
     let l = cell_units c.left all in
     let r = cell_units c.right (all - l) in
     omega (arith, cell_units_le c.left all, cell_units_le c.right (all - l), cell_units_le c.access (all - l - r))
-
--- each row adds to O, whatever the cells
-pub rows_add : (cells : FlowTable) (o : Counts) → map sum (pair_rows cells o) ≡ o.left ∷ o.through ∷ o.right ∷ o.access ∷ []
-unfolding pair_rows
-rows_add cells o =
-    rw (
-      row_adds_lem cells.left o.left,
-      row_adds_lem cells.through o.through,
-      row_adds_lem cells.right o.right,
-      row_adds_lem cells.access o.access,
-    )

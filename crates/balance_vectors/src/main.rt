@@ -86,8 +86,12 @@ fn answer_differs(s: &[u8; 260], o: Counts, exits: Counts, seeds: Seeds) -> bool
 
 // A body of another length differs.
 fn case_differs(body: &[u8]) -> bool {
-    body.as_array()
-        .is_none_or(|s| answer_differs(s, counts_at(s, 0), counts_at(s, 16), seeds_at(s, 32)))
+    body.as_array().is_none_or(|s| answer_differs(
+        s,
+        counts_at(s, 0),
+        counts_at(s, 16),
+        seeds_at(s, 32),
+    ))
 }
 
 fn main(rt: HostRuntime) -> io::Result<()> {

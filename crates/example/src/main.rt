@@ -129,7 +129,11 @@ fn discharge_of(rt: &impl Print, record: &[u8]) -> io::Result<()> {
     tell(
         rt,
         answer,
-        |o| say(rt, "through discharges, in thousandths of veh/h:", u64::from(o.through)),
+        |o| say(
+            rt,
+            "through discharges, in thousandths of veh/h:",
+            u64::from(o.through),
+        ),
     )
 }
 

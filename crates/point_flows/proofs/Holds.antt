@@ -52,7 +52,7 @@ module _ {u d : ℕ} {exact : ExactFlow} (s : Segment) (p : Point) where
       let x = passes_in s p s.left step in
       let y = passes_in s p s.through step in
       let z = passes_in s p s.right step in
-      let e : a + x + y + z ≡ x + y + z + a = omega arith in
+      let e : point_flow s p step ≡ x + y + z + a = omega arith in
       rw e
       (exit_within a (passes_within s.left step near.left first last) (passes_within s.through step near.through first last)
       (passes_within s.right step near.right first last))
