@@ -50,7 +50,7 @@ pub struct PointWorkAnswer {
     pub blocked: [u32; points::POINT_ROOM],
 }
 
-// The three entries' discharge volumes in veh/h.
+// The three entries' discharge volumes in thousandths of veh/h.
 #[repr(C)]
 #[derive(Clone, Copy, Default)]
 pub struct VolumesAnswer {
