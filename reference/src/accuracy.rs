@@ -21,7 +21,7 @@ pub struct Worked<'a> {
 
 /// A signalised entry: its discharge volume, its discharge, and its arrivals over all cycles worked.
 struct Platoon {
-    whole: u32,
+    volume: u32,
     leaving: Vec<u32>,
     arrivals: Vec<u32>,
 }
@@ -76,7 +76,7 @@ fn platoons(record: &Record) -> Vec<Platoon> {
         let all = leaving.iter().cycle().take(CYCLES * leaving.len());
         let arrivals = all.map(|&q| link.step(q)).collect();
         Platoon {
-            whole: volumes[i],
+            volume: volumes[i],
             leaving,
             arrivals,
         }
@@ -156,7 +156,7 @@ fn check_exits(worked: &Worked, platoons: &[Platoon], exact: Exact) -> Result<()
         distances: exact.exit_distances(),
     };
     // an entry without discharge has no arrivals to share
-    let wholes: Vec<u64> = platoons.iter().map(|p| u64::from(p.whole.max(1))).collect();
+    let wholes: Vec<u64> = platoons.iter().map(|p| u64::from(p.volume.max(1))).collect();
     let reported = exact.reported(&discharges(platoons), record.running_time);
     let shares = reported
         .into_iter()
@@ -212,12 +212,12 @@ fn check_exit_pairs(worked: &Worked, platoons: &[Platoon], j: usize) -> Result<(
     let cycle = worked.record.cycle as usize;
     let run = &worked.output[j * cycle..(j + 1) * cycle];
     let mut expected = cycle as u64 * u64::from(worked.working.flows[ACCESS][j]);
-    for (i, platoon) in platoons.iter().enumerate().filter(|(_, p)| p.whole > 0) {
+    for (i, platoon) in platoons.iter().enumerate().filter(|(_, p)| p.volume > 0) {
         let reported = &platoon.arrivals[platoon.arrivals.len() - cycle..];
         let flow = worked.working.flows[i][j];
-        let pair = pair_arrivals(reported, flow, platoon.whole);
+        let pair = pair_arrivals(reported, flow, platoon.volume);
         let due = u64::from(flow) * total(reported);
-        let whole = u64::from(platoon.whole);
+        let whole = u64::from(platoon.volume);
         if pair * whole > due || due - pair * whole >= whole {
             return Err(format!("pair {i} {j} is off its share"));
         }

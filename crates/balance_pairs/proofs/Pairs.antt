@@ -5,7 +5,7 @@ use Rattle.movements.specs.PerMovement.{Counts}
 use Rattle.balance_flows.specs.Flows.{FlowTable}
 use Rattle.balance_pairs.specs.Pairs.{pair_rows, row_adds_lem}
 
--- four numbers that are the same one by one
+-- four numbers that are the same one by one, so that a row which adds to another is refused for that
 four_same : {a b c d a' b' c' d' : ℕ} → a ≡ a' → b ≡ b' → c ≡ c' → d ≡ d' → a ∷ b ∷ c ∷ d ∷ [] ≡ a' ∷ b' ∷ c' ∷ d' ∷ []
 four_same e f g h = rw (e, f, g, h)
 

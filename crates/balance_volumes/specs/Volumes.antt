@@ -1,4 +1,4 @@
--- Discharges, exit volumes and seeds as floats of veh/h: item 2 of "Metering and shares".
+-- Discharges and exit volumes as floats of veh/h, seeds as proportions: item 2 of "Metering and shares".
 use Rattle.std.specs.Prelude.{ℕ, pos, Float, ◌≡◌, refl}
 use Rattle.std.specs.Float.{binary64}
 use Rattle.std.specs.Float.Ieee.{of_bits, of_int}

@@ -1,4 +1,4 @@
-// Discharges, exit volumes and seeds as 64-bit floats of veh/h, and the exits' volumes adjusted to what is discharged.
+// Discharges and exit volumes as 64-bit floats of veh/h, seeds as proportions, and the exits' volumes adjusted to what is discharged.
 #![tactic(auto)]
 
 ghost use Rattle.std.specs.Prelude.{◌≡◌};

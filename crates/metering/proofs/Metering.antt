@@ -1,4 +1,4 @@
--- Laws of specs/Metering.antt: Metering, item 1: what each entry discharges, in thousandths of a vehicle an hour.
+-- Laws of specs/Metering.antt: Metering, item 1: what each entry discharges, in thousandths of veh/h.
 use Rattle.std.specs.Prelude.{ℕ, ◌*◌, ◌/◌, ◌≤◌}
 use Rattle.std.proofs.Common.{arith, div-mul-le_self, mul-le-mul_right}
 use Rattle.movements.specs.Movements.{flow_units}

@@ -67,8 +67,9 @@ fn release(timing: Timing, queue: Queue, run: &mut [u32])
     }
 }
 
-// The queue of a cycle of c steps at a discharge volume, in thousandths of veh/h: what does not arrive on green waits when green starts. Three numbers stand apart
-// here and below: an entry gives two, metering the volume, and a struct would be built for one call and taken apart by each definition.
+// The queue of a cycle of c steps at a discharge volume, in thousandths of veh/h: what does not arrive on green waits when green starts.
+// Three numbers stand apart here and below: an entry gives two, metering the volume, and a struct would be built for one call and taken
+// apart by each definition.
 #[tactic(auto, unfolding(crate::specs::Discharge::queue_of, crate::specs::Discharge::carried, crate::specs::Discharge::green_arrivals))]
 fn queue_of(c: u32, saturation: u32, arriving: u32, volume: u32) -> Queue
     requires { (c < step_bound) × (saturation ≤ flow_limit) × (arriving ≤ most_arriving) × (volume ≤ flow_units entry_limit) }
@@ -83,7 +84,7 @@ fn queue_of(c: u32, saturation: u32, arriving: u32, volume: u32) -> Queue
     }
 }
 
-// Writes an entry's discharge profile over a run of the cycle's length.
+// Writes an entry's discharge profile, at a discharge volume in thousandths of veh/h, over a run of the cycle's length.
 pub fn discharge_profile(green: Green, saturation: u32, arriving: u32, volume: u32, run: &mut [u32])
     requires run_len_bound { (length run.old < step_bound) × GreenFits (length run.old) green }
     requires saturation_le_flow_limit { (saturation ≤ flow_limit) × (arriving ≤ most_arriving) × (volume ≤ flow_units entry_limit) }

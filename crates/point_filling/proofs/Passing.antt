@@ -11,8 +11,8 @@ use Rattle.signal.specs.Landing.{added}
 use Rattle.signal.proofs.Landing.{landing_is, added_tab}
 use Rattle.segment.specs.declared.Entry.{Entry}
 use Rattle.segment.specs.declared.Segment.{Segment}
-use Rattle.metering.specs.Metering.{access_discharge}
 use Rattle.ranges.specs.Ranges.{Ranges, EntryRanges}
+use Rattle.metering.specs.Metering.{access_discharge}
 use Rattle.entries.specs.Entries.{entry_profile, EntryRuns}
 use Rattle.entries.proofs.Laws.{entry_length, entry_le}
 use Rattle.dispersion.specs.Dispersion.{arrival_time_of, reported, held}

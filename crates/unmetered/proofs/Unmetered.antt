@@ -1,31 +1,36 @@
--- Laws of specs/Unmetered.antt: a record whose signalised entries' volumes are at or under the whole capacity keeps every figure.
+-- Laws of specs/Unmetered.antt: a record whose signalised entries' volumes are at or under the capacity in whole veh/h keeps every figure.
 use Rattle.std.specs.Prelude.{ℕ, ◌*◌, ◌/◌, ◌≤◌, ◌<◌, ◌≡◌, refl, List, length, Result, Ok, Err}
 use Rattle.std.proofs.Common.{arith, ap, sym, ◌∙◌, le-div_iff_mul-le}
-use Rattle.refusal.specs.Refusal.{Or, ok_refused}
+use Rattle.refusal.specs.Refusal.{Or, Test}
+use Rattle.octets.specs.Octets.{word4}
 use Rattle.movements.specs.declared.Signalised.{Signalised}
 use Rattle.movements.specs.Movements.{flow_units}
 use Rattle.segment.specs.declared.Entry.{Entry}
 use Rattle.segment.specs.declared.Segment.{Segment}
+use Rattle.segment.specs.Layout.{number_at}
 use Rattle.segment.specs.Segment.{segment_of}
 use Rattle.ranges.specs.Ranges.{Ranges}
+use Rattle.validation.specs.Accepted.{Accepted}
+use Rattle.validation.specs.Accepting.{accept_with}
 use Rattle.validation.proofs.Accepting.{accept_passed}
 use Rattle.metering.specs.Metering.{capacity, discharge_volume, discharge_volumes}
-use Rattle.entries.specs.Entries.{entry_profile, entry_profiles}
-use Rattle.entries.proofs.Laws.{entry_runs}
-use Rattle.discharge.specs.Discharge.{volumes_of, volumes_after, profile_after, Calls}
+use Rattle.discharge.specs.Discharge.{volumes_after, profile_after, Calls}
 use Rattle.discharge.specs.Discharge as discharge
 use Rattle.balance_decision.specs.declared.Unworked.{Unworked}
 use Rattle.propagation.specs.Propagation.{Profiles}
 use Rattle.working_outcome.specs.declared.Working.{Working}
-use Rattle.working.specs.Working.{accept_of, decision_for, called, call_of, Works}
+use Rattle.working.specs.Working.{accept_of, decision_for, Called, called, by_decision, call_of, Works}
 use Rattle.points.specs.declared.Points.{Points}
 use Rattle.point_working.specs.declared.PointWorking.{PointWorking}
 use Rattle.point_working.specs.PointWorking.{point_called, point_call_of, PointWorks}
 use Rattle.point_working.specs.PointWorking as point
-use Rattle.unmetered.specs.Whole.{whole_volume, whole_volumes, in_units, whole_decision, whole_entry, whole_segment, whole_by_record, whole_call_of, whole_points, whole_point_call_of}
-use Rattle.unmetered.specs.Unmetered.{EntryUnmetered, Unmetered, OfWhole, EntriesOfWhole}
-use Rattle.unmetered.proofs.Volumes.{Small, whole_decided}
-use Rattle.unmetered.proofs.Whole.{whole_capacity_le, whole_discharge, whole_profile, whole_discharges}
+use Rattle.sheet.specs.Sheet.{sheet_called, sheet_by, sheet_call_of, Sheets}
+use Rattle.unmetered.specs.Whole.{whole_volume, whole_volumes, in_thousandths, whole_decision, whole_segment, whole_worked}
+use Rattle.unmetered.specs.Whole.{whole_by_record, whole_call_of, whole_points, whole_point_call_of, whole_sheet_call_of}
+use Rattle.unmetered.specs.Whole.{whole_volumes_after, whole_profile_after}
+use Rattle.unmetered.specs.Unmetered.{EntryUnmetered, Unmetered, WholeDischarge}
+use Rattle.unmetered.proofs.Volumes.{WithinLimit, whole_decided}
+use Rattle.unmetered.proofs.Whole.{whole_capacity_le, whole_discharges}
 
 module _ (c : ℕ) (e : Entry) where
   -- such an entry brings its O
@@ -33,8 +38,9 @@ module _ (c : ℕ) (e : Entry) where
   same_volume u = omega arith
 
   module _ (pos : 0 < c) where
-    -- of no other entry is all of its volume discharged
-    pub unmetered_entry : (discharge_volume c e ≡ flow_units e.volume → EntryUnmetered c e) × (EntryUnmetered c e → discharge_volume c e ≡ flow_units e.volume)
+    -- its volume is all discharged, and of no other entry is it
+    pub unmetered_entry :
+        (discharge_volume c e ≡ flow_units e.volume → EntryUnmetered c e) × (EntryUnmetered c e → discharge_volume c e ≡ flow_units e.volume)
     unfolding discharge_volume capacity
     unmetered_entry = (only, λ u. omega (arith, u, whole_capacity_le c e pos))
       where
@@ -45,25 +51,25 @@ module _ (c : ℕ) (e : Entry) where
             let served = (le-div_iff_mul-le {k = c} {x = flow_units e.volume} {y = all} pos).0 most in
             (le-div_iff_mul-le {k = c} {x = e.volume} {y = e.saturation * e.green.steps} pos).1 (omega (arith, served))
 
-    unmetered_of_whole : EntryUnmetered c e → OfWhole c e (discharge_volume c e) (entry_profile c e)
-    unmetered_of_whole u =
-        let same : whole_entry c e ≡ e = rw (same_volume u) in
-        record { volume = rw same at (whole_discharge c e pos); profile = rw same at (whole_profile c e pos) }
+    discharges_whole : EntryUnmetered c e → discharge_volume c e ≡ flow_units (whole_volume c e)
+    discharges_whole u = unmetered_entry.1 u ∙ ap flow_units (sym (same_volume u))
+
+-- ---- an accepted record
 
 module _ (s : Segment) (u : Unmetered s) where
-  -- such a record's O is its volumes
-  unmetered_same : whole_segment s ≡ s
+  -- its O is its volumes
+  same_record : whole_segment s ≡ s
   unfolding whole_segment
-  unmetered_same = rw (same_volume s.cycle s.left u.left, same_volume s.cycle s.through u.through, same_volume s.cycle s.right u.right)
+  same_record = rw (same_volume s.cycle s.left u.left, same_volume s.cycle s.through u.through, same_volume s.cycle s.right u.right)
 
   module _ (r : Ranges s) where
     -- what it discharges: 1000 times the O of whole veh/h
-    pub unmetered_volumes : discharge_volumes s ≡ in_units (whole_volumes s)
-    unmetered_volumes = ap discharge_volumes (sym unmetered_same) ∙ whole_discharges s (omega (arith, r.cycle))
+    pub unmetered_volumes : discharge_volumes s ≡ in_thousandths (whole_volumes s)
+    unmetered_volumes = ap discharge_volumes (sym same_record) ∙ whole_discharges s (omega (arith, r.cycle))
 
-    whole_small : Small (whole_volumes s)
+    within_limit : WithinLimit (whole_volumes s)
     unfolding whole_volumes
-    whole_small =
+    within_limit =
         record {
           left = omega (arith, r.left.volume);
           through = omega (arith, r.through.volume);
@@ -72,34 +78,49 @@ module _ (s : Segment) (u : Unmetered s) where
         }
 
     -- what its volumes decide
-    unmetered_decision : decision_for s ≡ whole_decision (whole_volumes s) s.exits s.seeds
+    same_decision : decision_for s ≡ whole_decision (whole_volumes s) s.exits s.seeds
     unfolding decision_for
-    unmetered_decision = rw unmetered_volumes (whole_decided (whole_volumes s) s.exits s.seeds whole_small)
+    same_decision = rw unmetered_volumes (whole_decided (whole_volumes s) s.exits s.seeds within_limit)
 
-    unmetered_runs : (p : List ℕ) → EntriesOfWhole s (volumes_of s) (entry_profiles s p)
-    unmetered_runs p =
-        let runs = entry_runs s p in
+    same_volumes : volumes_after (Ok s) ≡ whole_volumes_after (Ok s)
+    same_volumes =
         let pos : 0 < s.cycle = omega (arith, r.cycle) in
-        record {
-          left = rw runs.left (unmetered_of_whole s.cycle s.left pos u.left);
-          through = rw runs.through (unmetered_of_whole s.cycle s.through pos u.through);
-          right = rw runs.right (unmetered_of_whole s.cycle s.right pos u.right);
-        }
+        rw (discharges_whole s.cycle s.left pos u.left, discharges_whole s.cycle s.through pos u.through, discharges_whole s.cycle s.right pos u.right)
 
--- the working as called: its answer and all three profiles
-pub unmetered_keeps : (l : List ℕ) (p : Profiles) (r : Result Working Unworked) (p' : Profiles) → Works l p r p' → Unmetered (segment_of l) →
-    called r p' ≡ whole_call_of l p
-unfolding call_of whole_call_of
-unmetered_keeps l p r p' w u = w.is ∙ go (accept_of l p) refl
-  where
-    go : (x : Or Segment) → accept_of l p ≡ x → call_of l p ≡ whole_by_record x p
-    go (Err n) e = rw e
-    go (Ok s) e =
-        let a = (accept_passed l _ s e).0 in
-        let us : Unmetered s = (rw (← a.is) at u) in
-        rw (e, unmetered_same s us, unmetered_decision s us a.ranges)
+-- the record of a call, whatever else it tests
+module _ {l : List ℕ} {tests : Segment → List Test} {s : Segment} (e : accept_with l tests ≡ Ok s) (u : Unmetered (segment_of l)) where
+  passed : Accepted l s
+  passed = (accept_passed l tests s e).0
 
--- with points: its answer and all four
+  unmetered : Unmetered s
+  unmetered = rw (← passed.is) at u
+
+  same_work : (p : Profiles) → by_decision s (decision_for s) p ≡ whole_worked s p
+  same_work p = rw (same_record s unmetered, same_decision s unmetered passed.ranges)
+
+-- ---- the calls as called
+
+-- the working
+module _ (l : List ℕ) (p : Profiles) (u : Unmetered (segment_of l)) where
+  same_call : call_of l p ≡ whole_call_of l p
+  unfolding call_of whole_call_of
+  same_call = go (accept_of l p) refl
+    where
+      go : (x : Or Segment) → accept_of l p ≡ x → call_of l p ≡ whole_by_record x p
+      go (Err n) e = rw e
+      go (Ok s) e = rw e (same_work e u p)
+
+  -- its answer and all three profiles
+  pub unmetered_keeps : (r : Result Working Unworked) (p' : Profiles) → Works l p r p' → called r p' ≡ whole_call_of l p
+  unmetered_keeps r p' w = w.is ∙ same_call
+
+  -- the sheet's answer, all three profiles and the page buffer
+  pub unmetered_sheet_keeps : (page : List ℕ) (r : Result Working Unworked) (p' : Profiles) (page' : List ℕ) → Sheets l p page r p' page' →
+      sheet_called r p' page' ≡ whole_sheet_call_of l p page
+  unfolding sheet_call_of
+  unmetered_sheet_keeps page r p' page' w = w.is ∙ ap (λ (c : Called). sheet_by (word4 l number_at) (segment_of l).cycle c p page) same_call
+
+-- with points: the answer and all four profiles
 pub unmetered_points_keep : (l : List ℕ) (ps : Points) (p : Profiles) (q : List ℕ) (r : Result PointWorking Unworked) (p' : Profiles) (q' : List ℕ) →
     PointWorks l ps p q r p' q' → Unmetered (segment_of l) → point_called r p' q' ≡ whole_point_call_of l ps p q
 unfolding point_call_of whole_point_call_of
@@ -107,20 +128,12 @@ unmetered_points_keep l ps p q r p' q' w u = w.is ∙ go (point.accept_of l ps p
   where
     go : (x : Or Segment) → point.accept_of l ps p (length q) ≡ x → point_call_of l ps p q ≡ whole_points x ps p q
     go (Err n) e = rw e
-    go (Ok s) e =
-        let a = (accept_passed l _ s e).0 in
-        let us : Unmetered s = (rw (← a.is) at u) in
-        rw (e, unmetered_same s us, unmetered_decision s us a.ranges)
+    go (Ok s) e = rw (e, same_work e u p, same_record s (unmetered e u))
 
--- the discharge as called, where it answers: its volumes and the three runs of its profile
-pub unmetered_discharges : (l p : List ℕ) (r : Or (Signalised ℕ)) (p' : List ℕ) → Calls l p r p' → Unmetered (segment_of l) → (o : Signalised ℕ) → r ≡ Ok o →
-    EntriesOfWhole (segment_of l) o p'
-unmetered_discharges l p r p' k u o eo = go (discharge.accept_of l (length p)) refl k.answer k.profile
+-- the discharge: its answer and the profile
+pub unmetered_discharge_keeps : (l p : List ℕ) (r : Or (Signalised ℕ)) (p' : List ℕ) → Calls l p r p' → Unmetered (segment_of l) → WholeDischarge l p r p'
+unmetered_discharge_keeps l p r p' k u = let same = go (discharge.accept_of l (length p)) refl in record { answer = k.answer ∙ same.0; profile = k.profile ∙ same.1 }
   where
-    go : (x : Or Segment) → discharge.accept_of l (length p) ≡ x → r ≡ volumes_after x → p' ≡ profile_after x p → EntriesOfWhole (segment_of l) o p'
-    go (Err n) q er ep = ok_refused (sym eo ∙ er)
-    go (Ok s) q er ep =
-        let a = (accept_passed l _ s q).0 in
-        let us : Unmetered s = (rw (← a.is) at u) in
-        let is : o ≡ volumes_of s = cc in
-        rw (ep, is, ← a.is) (unmetered_runs s us a.ranges p)
+    go : (x : Or Segment) → discharge.accept_of l (length p) ≡ x → (volumes_after x ≡ whole_volumes_after x) × (profile_after x p ≡ whole_profile_after x p)
+    go (Err n) e = (refl, refl)
+    go (Ok s) e = (same_volumes s (unmetered e u) (passed e u).ranges, rw (same_record s (unmetered e u)))

@@ -6,14 +6,14 @@ use Rattle.limits.specs.Limits.{entry_limit}
 use Rattle.movements.specs.PerMovement.{Counts, Seeds}
 use Rattle.movements.specs.Movements.{flow_units}
 use Rattle.balance_volumes.specs.Volumes.{discharge_floats, exit_floats}
-use Rattle.balance_volumes.proofs.Whole.{discharge_float_whole}
+use Rattle.balance_volumes.proofs.Volumes.{discharge_float_whole}
 use Rattle.balance.specs.Settling.{balanced}
 use Rattle.balance_refusals.specs.Refusals.{counts_total, no_volume, meets, unserved_entry, unserved_exit, any_unserved_entry, any_unserved_exit}
 use Rattle.balance_decision.specs.Decision.{decision_of}
-use Rattle.unmetered.specs.Whole.{in_units, whole_balanced, whole_decision}
+use Rattle.unmetered.specs.Whole.{in_thousandths, whole_balanced, whole_decision}
 
--- no more than an entry's largest volume, so that the floats are exact
-pub record Small (o : Counts) : Type 0 where
+-- no more than an entry's largest volume, so that each is a float exactly
+pub record WithinLimit (o : Counts) : Type 0 where
   pub left : o.left ≤ entry_limit
   pub through : o.through ≤ entry_limit
   pub right : o.right ≤ entry_limit
@@ -35,21 +35,21 @@ none n m h = go (eqb n 0) refl
     go false e = ne_eqb m 0 (λ z. eqb-false n 0 e (omega arith))
 
 module _ (o exits : Counts) (s : Seeds) where
-  units_none : no_volume (in_units o) exits ≡ no_volume o exits
-  unfolding no_volume in_units
-  units_none = rw (none (counts_total o) (counts_total (in_units o)) (omega arith))
+  thousandths_none : no_volume (in_thousandths o) exits ≡ no_volume o exits
+  unfolding no_volume in_thousandths
+  thousandths_none = rw (none (counts_total o) (counts_total (in_thousandths o)) (omega arith))
 
-  units_entry : any_unserved_entry (in_units o) exits s ≡ any_unserved_entry o exits s
-  unfolding any_unserved_entry unserved_entry in_units
-  units_entry = rw (some o.left, some o.through, some o.right, some o.access)
+  thousandths_entry : any_unserved_entry (in_thousandths o) exits s ≡ any_unserved_entry o exits s
+  unfolding any_unserved_entry unserved_entry in_thousandths
+  thousandths_entry = rw (some o.left, some o.through, some o.right, some o.access)
 
-  units_exit : any_unserved_exit (in_units o) exits s ≡ any_unserved_exit o exits s
-  unfolding any_unserved_exit unserved_exit meets in_units
-  units_exit = rw (some o.left, some o.through, some o.right, some o.access)
+  thousandths_exit : any_unserved_exit (in_thousandths o) exits s ≡ any_unserved_exit o exits s
+  unfolding any_unserved_exit unserved_exit meets in_thousandths
+  thousandths_exit = rw (some o.left, some o.through, some o.right, some o.access)
 
-units_floats : (o : Counts) → Small o → discharge_floats (in_units o) ≡ exit_floats o
-unfolding discharge_floats exit_floats in_units
-units_floats o h =
+thousandths_floats : (o : Counts) → WithinLimit o → discharge_floats (in_thousandths o) ≡ exit_floats o
+unfolding discharge_floats exit_floats in_thousandths
+thousandths_floats o h =
     rw (
       discharge_float_whole o.left (omega (arith, h.left)),
       discharge_float_whole o.through (omega (arith, h.through)),
@@ -57,6 +57,6 @@ units_floats o h =
       discharge_float_whole o.access (omega (arith, h.access)),
     )
 
-pub whole_decided : (o exits : Counts) (s : Seeds) → Small o → decision_of (in_units o) exits s ≡ whole_decision o exits s
+pub whole_decided : (o exits : Counts) (s : Seeds) → WithinLimit o → decision_of (in_thousandths o) exits s ≡ whole_decision o exits s
 unfolding decision_of whole_decision balanced whole_balanced
-whole_decided o exits s h = rw (units_none o exits s, units_entry o exits s, units_exit o exits s, units_floats o h)
+whole_decided o exits s h = rw (thousandths_none o exits s, thousandths_entry o exits s, thousandths_exit o exits s, thousandths_floats o h)

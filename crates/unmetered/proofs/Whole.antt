@@ -6,7 +6,7 @@ use Rattle.segment.specs.declared.Entry.{Entry}
 use Rattle.segment.specs.declared.Segment.{Segment}
 use Rattle.metering.specs.Metering.{capacity, discharge_volume, discharge_volumes}
 use Rattle.entries.specs.Entries.{entry_profile}
-use Rattle.unmetered.specs.Whole.{whole_capacity, whole_volume, whole_volumes, in_units, profile_at, whole_entry, whole_segment}
+use Rattle.unmetered.specs.Whole.{whole_capacity, whole_volume, whole_volumes, in_thousandths, profile_at, whole_entry, whole_segment}
 
 module _ (c : ℕ) (e : Entry) (pos : 0 < c) where
   -- the whole capacity is no more than the capacity
@@ -26,6 +26,6 @@ module _ (c : ℕ) (e : Entry) (pos : 0 < c) where
   unfolding entry_profile
   whole_profile = rw whole_discharge
 
-pub whole_discharges : (s : Segment) → 0 < s.cycle → discharge_volumes (whole_segment s) ≡ in_units (whole_volumes s)
-unfolding discharge_volumes whole_segment whole_volumes in_units
+pub whole_discharges : (s : Segment) → 0 < s.cycle → discharge_volumes (whole_segment s) ≡ in_thousandths (whole_volumes s)
+unfolding discharge_volumes whole_segment whole_volumes in_thousandths
 whole_discharges s pos = rw (whole_discharge s.cycle s.left pos, whole_discharge s.cycle s.through pos, whole_discharge s.cycle s.right pos)

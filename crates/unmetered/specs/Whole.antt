@@ -1,11 +1,16 @@
--- The working as it was before request 4, with capacity cut to whole veh/h: only what the theorem compares with.
+-- The calls on a record with request 4's rule undone: capacity and O in whole veh/h (`whole_`), all else as it stands. Only what the
+-- theorems compare with.
 use Rattle.std.specs.Prelude.{ℕ, ◌*◌, ◌/◌, min, ◌||◌, not, List, length, Result, Ok, Err}
 use Rattle.refusal.specs.declared.Refusal.TheVariants.{NoVolume, Unserved}
-use Rattle.refusal.specs.Refusal.{Or, need}
+use Rattle.refusal.specs.Refusal.{Or, need, and_then}
+use Rattle.octets.specs.Octets.{word4}
+use Rattle.movements.specs.declared.Signalised.{Signalised}
 use Rattle.movements.specs.PerMovement.{Counts, Seeds}
 use Rattle.movements.specs.Movements.{flow_units}
 use Rattle.segment.specs.declared.Entry.{Entry}
 use Rattle.segment.specs.declared.Segment.{Segment}
+use Rattle.segment.specs.Layout.{number_at}
+use Rattle.segment.specs.Segment.{segment_of}
 use Rattle.balance_volumes.specs.Volumes.{exit_floats, proportions, destination_volumes}
 use Rattle.balance.specs.declared.Balance.{Balance}
 use Rattle.balance.specs.Settling.{round_limit, settle}
@@ -16,11 +21,13 @@ use Rattle.balance_decision.specs.declared.Unworked.TheVariants.{Refused}
 use Rattle.balance_decision.specs.Unworked.{work_on}
 use Rattle.balance_decision.specs.Decision.{settled_to}
 use Rattle.platoon.specs.Discharge.{profile_of}
+use Rattle.entries.specs.Entries.{entry_profiles}
 use Rattle.propagation.specs.Propagation.{Profiles}
 use Rattle.working.specs.Working.{accept_of, Called, called, by_decision}
 use Rattle.points.specs.declared.Points.{Points}
 use Rattle.point_working.specs.PointWorking.{PointCalled, point_called, with_points}
 use Rattle.point_working.specs.PointWorking as point
+use Rattle.sheet.specs.Sheet.{SheetCalled, sheet_by}
 
 -- the whole part of saturation·g/c, in veh/h
 abbrev pub whole_capacity : ℕ → Entry → ℕ
@@ -41,10 +48,10 @@ whole_volumes s =
     }
 
 -- 1000·O of each entry
-unfoldable pub in_units : Counts → Counts
-in_units o = record { left = flow_units o.left; through = flow_units o.through; right = flow_units o.right; access = flow_units o.access }
+unfoldable pub in_thousandths : Counts → Counts
+in_thousandths o = record { left = flow_units o.left; through = flow_units o.through; right = flow_units o.right; access = flow_units o.access }
 
--- the floats are O itself
+-- O is a whole number, made a float as an exit volume is
 unfoldable pub whole_balanced : Counts → Counts → Seeds → Balance
 whole_balanced o exits seeds =
     let origins = exit_floats o in
@@ -57,13 +64,14 @@ whole_decision o exits seeds =
     (need NoVolume (not (no_volume o exits))
     (need Unserved (not (any_unserved_entry o exits seeds || any_unserved_exit o exits seeds))
     (Ok (whole_balanced o exits seeds))))
-    (settled_to (in_units o))
+    (settled_to (in_thousandths o))
 
 -- an entry's profile at O veh/h: a cycle carries 1000·O·C
 abbrev pub profile_at : ℕ → Entry → ℕ → List ℕ
 profile_at c e o = profile_of c e.green e.saturation e.arriving (flow_units o)
 
--- the entry that brings no more than O: it discharges 1000·O, and its profile is the one at O
+-- the entry that brings no more than O: it discharges 1000·O, and its profile is the one at O (proofs/Whole.antt, `whole_discharge` and
+-- `whole_profile`, of metered entries too)
 abbrev pub whole_entry : ℕ → Entry → Entry
 whole_entry c e = record { volume = whole_volume c e; saturation = e.saturation; green = e.green; arriving = e.arriving }
 
@@ -91,7 +99,7 @@ abbrev pub whole_by_record : Or Segment → Profiles → Called
 whole_by_record (Err refusal) p = called (Err (Refused refusal)) p
 whole_by_record (Ok s) p = whole_worked s p
 
--- the call: the same refusals of the record and of the profiles' lengths
+-- the working: the same refusals of the record and of the profiles' lengths
 unfoldable pub whole_call_of : List ℕ → Profiles → Called
 whole_call_of l p = whole_by_record (accept_of l p) p
 
@@ -102,3 +110,22 @@ whole_points (Ok s) ps p q = with_points (whole_segment s) ps (whole_worked s p)
 
 unfoldable pub whole_point_call_of : List ℕ → Points → Profiles → List ℕ → PointCalled
 whole_point_call_of l ps p q = whole_points (point.accept_of l ps p (length q)) ps p q
+
+-- the sheet of that working
+abbrev pub whole_sheet_call_of : List ℕ → Profiles → List ℕ → SheetCalled
+whole_sheet_call_of l p page = sheet_by (word4 l number_at) (segment_of l).cycle (whole_call_of l p) p page
+
+-- the discharge: 1000 times each O where it answered O, and the profiles at O
+abbrev pub whole_volumes_after : Or Segment → Or (Signalised ℕ)
+whole_volumes_after x =
+    and_then x
+    (λ s.
+    Ok (record {
+      left = flow_units (whole_volume s.cycle s.left);
+      through = flow_units (whole_volume s.cycle s.through);
+      right = flow_units (whole_volume s.cycle s.right);
+    }))
+
+abbrev pub whole_profile_after : Or Segment → List ℕ → List ℕ
+whole_profile_after (Err refusal) p = p
+whole_profile_after (Ok s) p = entry_profiles (whole_segment s) p

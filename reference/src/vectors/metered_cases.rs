@@ -31,7 +31,7 @@ pub const BY_ORDER: &[(Order, Metered)] = &[
 /// Cycles and entries of which this cut of what arrives on green changes the discharge, and the arrivals on the shortest
 /// street. A cut shows only in green steps that discharge less than the saturation. Metered entries have such steps only
 /// for the flow units, fewer than C, that a cycle carries less than its green could: with most arriving on green, and with
-/// capacities of thousandths to some hundred and fifty vehicles an hour.
+/// capacities of thousandths to some hundred and forty vehicles an hour.
 #[rustfmt::skip]
 pub const BY_CUT: &[(Cut, u32, EntryFields)] = &[
     (Cut::Nearest, 52, [6000, 1, 44, 3, 981]),

@@ -11,8 +11,9 @@ pub loop-discharge-init : goal.loop-discharge-init
 loop-discharge-init c =
     let h = rw (← c.accepted.view_is) at c.requires in
     let cut = c.chunks_exact-discharge-items.ensures in
+    let units = rw (← c.accepted.view_is) at c.access_discharge.ensures in
     rw (← c.accepted.view_is, c.into_iter-discharge-iterator.ensures.into_iter_gives)
-    (passed_start (three_front h.discharged) cut.size cut.rest (rw (← c.accepted.view_is) at c.access_discharge.ensures) h.long (c.fill.ensures.after (λ y e. e)))
+    (passed_start (three_front h.discharged) cut.size cut.rest units h.long (c.fill.ensures.after (λ y e. e)))
 
 pub pass-requires : goal.pass-requires
 pass-requires c =
