@@ -88,7 +88,7 @@ module _ (s : Segment) (u : Unmetered s) where
         rw (discharges_whole s.cycle s.left pos u.left, discharges_whole s.cycle s.through pos u.through, discharges_whole s.cycle s.right pos u.right)
 
 -- the record of a call, whatever else it tests
-module _ {l : List ℕ} {tests : Segment → List Test} {s : Segment} (e : accept_with l tests ≡ Ok s) (u : Unmetered (segment_of l)) where
+module _ (l : List ℕ) (tests : Segment → List Test) (s : Segment) (e : accept_with l tests ≡ Ok s) (u : Unmetered (segment_of l)) where
   passed : Accepted l s
   passed = (accept_passed l tests s e).0
 
@@ -108,7 +108,7 @@ module _ (l : List ℕ) (p : Profiles) (u : Unmetered (segment_of l)) where
     where
       go : (x : Or Segment) → accept_of l p ≡ x → call_of l p ≡ whole_by_record x p
       go (Err n) e = rw e
-      go (Ok s) e = rw e (same_work e u p)
+      go (Ok s) e = rw e (same_work l _ s e u p)
 
   -- its answer and all three profiles
   pub unmetered_keeps : (r : Result Working Unworked) (p' : Profiles) → Works l p r p' → called r p' ≡ whole_call_of l p
@@ -128,7 +128,7 @@ unmetered_points_keep l ps p q r p' q' w u = w.is ∙ go (point.accept_of l ps p
   where
     go : (x : Or Segment) → point.accept_of l ps p (length q) ≡ x → point_call_of l ps p q ≡ whole_points x ps p q
     go (Err n) e = rw e
-    go (Ok s) e = rw (e, same_work e u p, same_record s (unmetered e u))
+    go (Ok s) e = rw (e, same_work l _ s e u p, same_record s (unmetered l _ s e u))
 
 -- the discharge: its answer and the profile
 pub unmetered_discharge_keeps : (l p : List ℕ) (r : Or (Signalised ℕ)) (p' : List ℕ) → Calls l p r p' → Unmetered (segment_of l) → WholeDischarge l p r p'
@@ -136,4 +136,6 @@ unmetered_discharge_keeps l p r p' k u = let same = go (discharge.accept_of l (l
   where
     go : (x : Or Segment) → discharge.accept_of l (length p) ≡ x → (volumes_after x ≡ whole_volumes_after x) × (profile_after x p ≡ whole_profile_after x p)
     go (Err n) e = (refl, refl)
-    go (Ok s) e = (same_volumes s (unmetered e u) (passed e u).ranges, rw (same_record s (unmetered e u)))
+    go (Ok s) e =
+        let us = unmetered l _ s e u in
+        (same_volumes s us (passed l _ s e u).ranges, rw (same_record s us))
