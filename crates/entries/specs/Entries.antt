@@ -46,5 +46,5 @@ pub record EntryDischarge (c : ℕ) (e : Entry) (o : ℕ) (run : List ℕ) : Typ
       ≡ min (flow_units e.saturation) (waits_in c e.green (carried c o) (green_arrivals (carried c o) e.arriving) run k)
   -- other steps discharge 0
   pub red : (s : ℕ) → 0 < s → s ≤ c → in_green c e.green s ≡ false → number_at run s ≡ 0
-  -- the cycle discharges T
-  pub total : sum run ≡ carried c o
+  -- the cycle discharges T, which is O·C
+  pub total : sum run ≡ o * c

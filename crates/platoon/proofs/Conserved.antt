@@ -62,7 +62,7 @@ green_sum t all (suc n) rate h enough =
 
 -- the profile of an entry adds to T: its green serves the discharge volume, since that is no more than the capacity
 pub profile_sum : (c : ℕ) (green : Green) (saturation p o : ℕ) → 0 < c → p ≤ most_arriving → o * c ≤ flow_units saturation * green.steps →
-    sum (profile_of c green saturation p o) ≡ carried c o
+    sum (profile_of c green saturation p o) ≡ o * c
 unfolding profile_of green_flows queue_of landed carried
 profile_sum c green saturation p o pos part serves =
     landed_sum c _ 1 (green_flows green.steps (queue_of c saturation p o)) pos

@@ -24,8 +24,8 @@ unfolding lands_in pair_of entry_arrivals
 lands_in_le s e v k r share pos fits =
     let c = s.cycle in
     let q = entry_profile c e in
-    lands_le c (arrival_time_of s.running) k v (discharge_volume c e) (flow_units flow_limit) _ pos fits
-    (omega (arith, reported_length s.running q cycles_before, entry_length c e)) share
+    lands_le c (arrival_time_of s.running) k v _ (flow_units flow_limit) _ pos fits
+    (omega (arith, reported_length s.running q cycles_before, entry_length c e)) (omega (arith, share))
     (reported_le s.running (flow_units flow_limit) q cycles (entry_le c e r))
 
 module _ (s : Segment) (rows : List (List ℕ)) (r : Ranges s) (fit : RowsFit s rows) where

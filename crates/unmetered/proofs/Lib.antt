@@ -1,3 +1,3 @@
 pub mod Volumes
-pub mod Whole
+pub mod Cut
 pub mod Unmetered

@@ -10,10 +10,10 @@ use Rattle.balance_volumes.proofs.Volumes.{discharge_float_whole}
 use Rattle.balance.specs.Settling.{balanced}
 use Rattle.balance_refusals.specs.Refusals.{counts_total, no_volume, meets, unserved_entry, unserved_exit, any_unserved_entry, any_unserved_exit}
 use Rattle.balance_decision.specs.Decision.{decision_of}
-use Rattle.unmetered.specs.Whole.{in_thousandths, whole_balanced, whole_decision}
+use Rattle.unmetered.specs.Cut.{in_thousandths, cut_balanced, cut_decision}
 
 -- no more than an entry's largest volume, so that each is a float exactly
-pub record WithinLimit (o : Counts) : Type 0 where
+pub record WithinRange (o : Counts) : Type 0 where
   pub left : o.left ≤ entry_limit
   pub through : o.through ≤ entry_limit
   pub right : o.right ≤ entry_limit
@@ -47,7 +47,7 @@ module _ (o exits : Counts) (s : Seeds) where
   unfolding any_unserved_exit unserved_exit meets in_thousandths
   thousandths_exit = rw (some o.left, some o.through, some o.right, some o.access)
 
-thousandths_floats : (o : Counts) → WithinLimit o → discharge_floats (in_thousandths o) ≡ exit_floats o
+thousandths_floats : (o : Counts) → WithinRange o → discharge_floats (in_thousandths o) ≡ exit_floats o
 unfolding discharge_floats exit_floats in_thousandths
 thousandths_floats o h =
     rw (
@@ -57,6 +57,6 @@ thousandths_floats o h =
       discharge_float_whole o.access (omega (arith, h.access)),
     )
 
-pub whole_decided : (o exits : Counts) (s : Seeds) → WithinLimit o → decision_of (in_thousandths o) exits s ≡ whole_decision o exits s
-unfolding decision_of whole_decision balanced whole_balanced
-whole_decided o exits s h = rw (thousandths_none o exits s, thousandths_entry o exits s, thousandths_exit o exits s, thousandths_floats o h)
+pub cut_decided : (o exits : Counts) (s : Seeds) → WithinRange o → decision_of (in_thousandths o) exits s ≡ cut_decision o exits s
+unfolding decision_of cut_decision balanced cut_balanced
+cut_decided o exits s h = rw (thousandths_none o exits s, thousandths_entry o exits s, thousandths_exit o exits s, thousandths_floats o h)

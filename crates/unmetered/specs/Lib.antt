@@ -1,2 +1,2 @@
-pub mod Whole
+pub mod Cut
 pub mod Unmetered
