@@ -2,13 +2,13 @@
 // Access begins the runs; then each signalised entry's arrivals are added, pair by pair, where they land.
 #![tactic(auto)]
 
-ghost use Rattle.std.specs.Prelude.{◌≡◌, ◌+◌, ◌*◌, ◌≤◌, ◌<◌, ℕ, List, [], ◌∷◌, ⊤, refl, length};
-ghost use Rattle.signal.specs.Landing.{added};
+ghost use Rattle.std.specs.Prelude.{◌≡◌, ◌+◌, ◌*◌, ◌≤◌, ◌<◌, ℕ, List, [], ◌∷◌, ◌++◌, ⊤, refl, length};
+ghost use Rattle.signal.specs.Landing.{added, onto};
 ghost use Rattle.pair_parts.specs.PairParts.{parts, pair_arrivals};
-ghost use Rattle.pair_parts.proofs.Laws.{parts_none};
-ghost use Rattle.arrivals.specs.Arrivals.{LandsFit, PairFits, EntryFits, begun, entry_added};
+ghost use Rattle.pair_parts.proofs.Laws.{parts_length};
+ghost use Rattle.arrivals.specs.Arrivals.{PartsFit, LandsFit, PairFits, EntryFits, begun, entry_added};
 
-use signal::Step;
+use signal::Post;
 
 // What of each arrival is added to a run, in turn.
 trait Share {
@@ -24,8 +24,8 @@ trait Share {
         ensures part { (rest : List ℕ) → parts self.old (arrival ∷ rest) ≡ result ∷ parts self.new rest }
         ensures no_more { result ≤ arrival };
 
-    // none are left
-    ghost none: { (s : Self) → parts s [] ≡ [] };
+    // one of each
+    ghost long: { (s : Self) (arrived : List ℕ) → length (parts s arrived) ≡ length arrived };
 }
 
 // All of it.
@@ -41,7 +41,7 @@ impl Share for Whole {
         arrival
     }
 
-    ghost none = { λ s. refl };
+    ghost long = { λ s arrived. refl };
 }
 
 // A pair's part v / w in whole numbers, with the remainder that is carried to the next.
@@ -66,23 +66,34 @@ impl Share for Pair {
         (whole / by) as u32
     }
 
-    ghost none = { λ s. parts_none s.v s.w s.carry };
+    ghost long = { λ s arrived. parts_length s.v s.w s.carry arrived };
 }
 
-// The part of each arrival is added to a run where its step lands. Arrivals and the time t stand apart here and below: the definition
-// `added` takes each by itself, and a struct of both would only be taken apart.
-fn add_parts<S: Share + Copy>(arrived: &[u32], mut share: S, t: u32, run: &mut [u32])
+// Arrivals one after another: the part of each is added to the number in its place of a run's part.
+fn add_parts<S: Share + Copy>(arrived: &[u32], share: &mut S, part: &mut [u32])
+    requires fits { PartsFit arrived.now part.old }
+    requires fair { S.fair share.old }
+    ensures fair { S.fair share.new }
+    ensures added { part.new ≡ onto (S.parts share.old arrived.now) part.old }
+    ensures to_come { (later : List ℕ) → S.parts share.old (arrived.now ++ later) ≡ S.parts share.old arrived.now ++ S.parts share.new later }
+{
+    for (i, arrival) in arrived.iter().enumerate() {
+        part[i] += share.part(*arrival);
+    }
+}
+
+// The part of each arrival is added to a run where its step lands: up to the cycle's end from the place where step 1's lands, then from
+// the run's beginning. Arrivals and the time t stand apart here and below: the definition `added` takes each by itself, and a struct of
+// both would only be taken apart.
+fn land<S: Share + Copy>(arrived: &[u32], mut share: S, t: u32, run: &mut [u32])
     requires fits { LandsFit t arrived.now run.old }
     requires fair { S.fair share }
     ensures { run.new ≡ added (length run.old) t 1 (S.parts share arrived.now) run.old }
 {
-    let c = run.len() as u32;
-    let mut lands = signal::later(c, Step(1), t);
-    for arrival in arrived {
-        let at = signal::index(lands);
-        run[at] += share.part(*arrival);
-        lands = signal::next(c, lands);
-    }
+    let (again, ahead) = run.split_at_mut(signal::place_after(run.len() as u32, Post(t)));
+    let (first, rest) = arrived.split_at(ahead.len());
+    add_parts(first, &mut share, ahead);
+    add_parts(rest, &mut share, again);
 }
 
 // One run: the parts of an entry's arrivals that go to its exit are added where their steps land, remainder carried from step to step.
@@ -93,7 +104,7 @@ fn add_pair(arrived: &[u32], v: u32, w: u32, t: u32, run: &mut [u32])
     if v == 0 {
         return;
     }
-    add_parts(arrived, Pair { v, w, carry: 0 }, t, run);
+    land(arrived, Pair { v, w, carry: 0 }, t, run);
 }
 
 // Arrivals are added to a run, whole, where their steps land.
@@ -101,7 +112,7 @@ pub fn add_whole(arrived: &[u32], t: u32, run: &mut [u32])
     requires { LandsFit t arrived.now run.old }
     ensures { run.new ≡ added (length run.old) t 1 arrived.now run.old }
 {
-    add_parts(arrived, Whole, t, run);
+    land(arrived, Whole, t, run);
 }
 
 // One entry: to each of the four runs its pair's arrivals are added. Runs are cut by place: tried as a `zip` with `chunks_exact_mut`, what

@@ -7,7 +7,7 @@ ghost use Rattle.lists.specs.Lists.{sum};
 ghost use Rattle.signal.specs.Greens.{GreenFits};
 ghost use Rattle.exit_figures.specs.ExitFigures.{total_bound, green_flow, permille_of, figures_of, blocked, blocked_steps};
 
-use signal::{Green, Timing};
+use signal::Green;
 
 // One vehicle, 3600000 flow units, in the 1000 ms of a step: a flow times a headway in ms that is more leaves no headway free.
 const CRITICAL_PRODUCT: u64 = 3600000000;
@@ -40,6 +40,14 @@ fn is_blocked(flow: u32, headway: u32) -> bool
     CRITICAL_PRODUCT < u64::from(flow) * u64::from(headway)
 }
 
+// What arrives in some steps.
+fn total(steps: &[u32]) -> u64
+    requires { length steps.now < step_bound }
+    ensures { result ≡ sum steps.now }
+{
+    steps.iter().map(|flow| u64::from(*flow)).sum()
+}
+
 // A run: what arrives in each step of its cycle.
 #[derive(Clone, Copy)]
 pub struct Run<'a> {
@@ -51,22 +59,19 @@ impl<'a> Run<'a> {
     pub fn total(self) -> u64
         ensures { result ≡ sum self.entry.steps.now }
     {
-        self.steps.iter().map(|flow| u64::from(*flow)).sum()
+        total(self.steps)
     }
 
-    // What arrives in the green's steps. A `for`: each number that it reads is known to be of 32 bits, which bounds the sum; the sum of a
-    // chain of `enumerate` and `filter` has no bound.
-    fn green_flow(self, timing: Timing) -> u64
-        requires { timing.cycle ≡ length self.steps.now }
-        ensures { (result ≡ green_flow timing.green self.entry.steps.now) × (result < total_bound) }
+    // What arrives in the green's steps: in those up to the cycle's end, then in those from step 1.
+    fn green_flow(self, green: Green) -> u64
+        requires { GreenFits (length self.steps.now) green }
+        ensures { result ≡ green_flow green self.entry.steps.now }
     {
-        let mut arrived: u64 = 0;
-        for (k, flow) in self.steps.iter().enumerate() {
-            if timing.in_green(signal::step_at(k)) {
-                arrived += u64::from(*flow);
-            }
-        }
-        arrived
+        let place = signal::place_after(self.steps.len() as u32, green.start);
+        let (again, ahead) = self.steps.split_at(place);
+        let g = green.steps as usize;
+        let first = g.min(ahead.len());
+        total(&ahead[..first]) + total(&again[..g - first])
     }
 
     // The figures of a signalised exit, its run a cycle.
@@ -74,9 +79,8 @@ impl<'a> Run<'a> {
         requires { GreenFits (length self.steps.now) green }
         ensures { result ≡ figures_of green self.entry.steps.now }
     {
-        let cycle = self.steps.len() as u32;
         let all = self.total();
-        let part = self.green_flow(Timing { cycle, green });
+        let part = self.green_flow(green);
         ExitFigures {
             total: all,
             green: part,

@@ -6,10 +6,10 @@ ghost use Rattle.limits.specs.Limits.{entry_limit, flow_limit, most_arriving, st
 ghost use Rattle.movements.specs.Movements.{flow_units};
 ghost use Rattle.signal.specs.Greens.{GreenFits};
 ghost use Rattle.signal.specs.Landing.{added};
-ghost use Rattle.platoon.specs.Discharge.{cycle_bound, green_flows, profile_of, queue_of, served_of};
+ghost use Rattle.platoon.specs.Discharge.{ServeFits, cycle_bound, green_flows, profile_of, queue_of, served, served_of, waits_after};
 
 use movements::flow_units;
-use signal::{Green, Timing};
+use signal::Green;
 
 // The queue of a green: what waits as it starts, what arrives while it lasts, what a step can serve.
 #[derive(Clone, Copy)]
@@ -38,33 +38,49 @@ fn serve(queue: u64, rate: u32) -> Served
     }
 }
 
-// What has arrived on green by the end of the step after those that are gone.
-fn arrived(gone: u32, arriving: u64, g: u32) -> u64
-    requires { (gone < g) × (g < step_bound) × (arriving ≤ cycle_bound) }
-    ensures { result ≡ (gone + 1) * arriving / g }
+// What has arrived on green by the end of step k of it.
+fn arrived(k: u32, arriving: u64, g: u32) -> u64
+    requires { (0 < g) × (k < step_bound) × (arriving ≤ cycle_bound) }
+    ensures { result ≡ k * arriving / g }
 {
-    u64::from(gone + 1) * arriving / u64::from(g)
+    u64::from(k) * arriving / u64::from(g)
 }
 
-// Serves the queue step by step of the green, into an empty cycle. A `for`: what waits and what has passed go on from step to step, and
-// a step's place turns with the cycle.
-fn release(timing: Timing, queue: Queue, run: &mut [u32])
-    requires run_is_cycle { timing.cycle ≡ length run.old }
-    requires waiting_le_cycle_bound { (queue.waiting ≤ cycle_bound) × (queue.arriving ≤ cycle_bound) }
-    requires run_value { run.old ≡ replicate (length run.old) 0 }
-    ensures { run.new ≡ added (length run.old) timing.green.start.0 1 (green_flows timing.green.steps queue) run.old }
+// Serves the queue of a green of g over so many of its steps as a run's part has, after those that are gone: each receives, then
+// discharges into its place. A `for`: what waits and what has passed go on from step to step. Answers what waits after them.
+fn serve_steps(queue: Queue, g: u32, gone: u32, part: &mut [u32]) -> u64
+    requires { ServeFits queue g gone part.old }
+    ensures waiting { result ≡ waits_after queue.arriving g queue.rate (length part.old) (gone + 1) queue.waiting }
+    ensures part { part.new ≡ served queue.arriving g queue.rate (length part.old) (gone + 1) queue.waiting }
 {
-    let g = timing.green.steps;
     let mut waiting = queue.waiting;
-    let mut passed: u64 = 0;
-    for gone in 0..g {
-        let reached = arrived(gone, queue.arriving, g);
+    let mut passed = arrived(gone, queue.arriving, g);
+    for (i, flow) in part.iter_mut().enumerate() {
+        let reached = arrived(gone + i as u32 + 1, queue.arriving, g);
         let step = serve(waiting + (reached - passed), queue.rate);
-        let at = signal::index(timing.green_step(gone + 1));
-        run[at] += step.flow;
+        *flow = step.flow;
         waiting = step.waiting;
         passed = reached;
     }
+    waiting
+}
+
+// Serves the queue over a green, into an empty cycle: up to the cycle's end from the first green step on, then from step 1.
+fn release(green: Green, queue: Queue, run: &mut [u32])
+    requires green_fits { (length run.old < step_bound) × GreenFits (length run.old) green }
+    requires waiting_le_cycle_bound { (queue.waiting ≤ cycle_bound) × (queue.arriving ≤ cycle_bound) }
+    requires run_value { run.old ≡ replicate (length run.old) 0 }
+    ensures { run.new ≡ added (length run.old) green.start.0 1 (green_flows green.steps queue) run.old }
+{
+    let g = green.steps;
+    if g == 0 {
+        return;
+    }
+    let (again, ahead) = run.split_at_mut(signal::place_after(run.len() as u32, green.start));
+    let first = g.min(ahead.len() as u32);
+    let waiting = serve_steps(queue, g, 0, &mut ahead[..first as usize]);
+    let rest = Queue { waiting, ..queue };
+    serve_steps(rest, g, first, &mut again[..(g - first) as usize]);
 }
 
 // The queue of a cycle of c steps at a discharge volume, in thousandths of veh/h: what does not arrive on green waits when green starts.
@@ -93,5 +109,5 @@ pub fn discharge_profile(green: Green, saturation: u32, arriving: u32, volume: u
     run.fill(0);
     let cycle = run.len() as u32;
     let queue = queue_of(cycle, saturation, arriving, volume);
-    release(Timing { cycle, green }, queue, run);
+    release(green, queue, run);
 }

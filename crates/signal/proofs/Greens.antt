@@ -1,7 +1,6 @@
 -- Laws of specs/Greens.antt: Greens: a green of a start post b and so many steps g has the steps b + 1 to b + g, and a step past c continues at 1.
-use Prim.Native.Nat.{ℕ, zero, suc, ◌+◌, ◌-◌, ◌%◌, ◌≤◌, ◌<◌}
+use Prim.Native.Nat.{ℕ, zero, suc, ◌+◌, ◌-◌, ◌≤◌, ◌<◌}
 use Rattle.std.proofs.Common.{arith, ◌∙◌}
-use Rattle.std.proofs.Math.Nat.{mod-eq_of_lt}
 use Rattle.std.specs.Prelude.{Bool, ◌||◌, ◌≡◌, [], eqb, length}
 use Rattle.std.proofs.Math.Bool.{true, false, cond}
 use Rattle.std.proofs.Math.Path.{refl, ap, sym}
@@ -36,16 +35,8 @@ green_count c green = tab_length (green_step c green) 1 green.steps
 pub green_apart : (c : ℕ) (green : Green) (j k : ℕ) → 0 < j → j ≤ c → 0 < k → k ≤ c → green_step c green j ≡ green_step c green k → j ≡ k
 green_apart c green j k hj lj hk lk e = lands_apart c green.start.0 j k hj lj hk lk (sym (green_lands c green j) ∙ e ∙ green_lands c green k)
 
--- a step is green where fewer than g steps stand between the start and it
+-- the one place of a step in the order of a green
 module _ (c : ℕ) (green : Green) (w : GreenFits c green) (s : ℕ) (pos : 0 < s) (fits : s ≤ c) where
-  order : earlier c green.start.0 s ≡ (s - 1 + (c - green.start.0)) % c + 1
-  unfolding earlier turn
-  order =
-      let b = green.start.0 in
-      let e : b % c ≡ b = mod-eq_of_lt w.start in
-      let q : s + (c - b) - 1 ≡ s - 1 + (c - b) = omega (arith, w.start) in
-      rw (e, q)
-
   falls : green_step c green (earlier c green.start.0 s) ≡ s
   falls = green_lands c green (earlier c green.start.0 s) ∙ earlier_lands c green.start.0 s pos fits
 
@@ -54,27 +45,22 @@ module _ (c : ℕ) (green : Green) (w : GreenFits c green) (s : ℕ) (pos : 0 < 
       let b = green.start.0 in
       green_apart c green k (earlier c b s) (omega arith) (omega (arith, w.steps)) (earlier_pos c b s) (earlier_le c b s (omega arith)) (e ∙ sym falls)
 
-  pub in_green_is : in_green c green s ≡ ltb ((s - 1 + (c - green.start.0)) % c) green.steps
+  -- a step is green where the step that stands as many steps before it as the start post is one of the first g
+  pub in_green_earlier : in_green c green s ≡ ltb (earlier c green.start.0 s - 1) green.steps
   unfolding in_green green_steps
-  in_green_is = go (ltb ((s - 1 + (c - green.start.0)) % c) green.steps) refl
+  in_green_earlier = go (ltb (earlier c green.start.0 s - 1) green.steps) refl
     where
-      go : (t : Bool) → ltb ((s - 1 + (c - green.start.0)) % c) green.steps ≡ t → has s (tab (green_step c green) 1 green.steps) ≡ t
+      go : (t : Bool) → ltb (earlier c green.start.0 s - 1) green.steps ≡ t → has s (tab (green_step c green) 1 green.steps) ≡ t
       go true q =
           let b = green.start.0 in
           has_in (green_step c green) s 1 green.steps (earlier c b s) (earlier_pos c b s)
-          (omega (arith, order, ltb-true ((s - 1 + (c - b)) % c) green.steps q)) falls
+          (omega (arith, ltb-true (earlier c b s - 1) green.steps q)) falls
       go false q =
           has_out (green_step c green) s 1 green.steps
           (λ j h r e.
           let z = only j h r e in
-          let g = ltb-false ((s - 1 + (c - green.start.0)) % c) green.steps q in
-          omega (arith, order))
-
-  -- where the step that stands as many steps before it as the start post is one of the first g
-  pub in_green_earlier : in_green c green s ≡ ltb (earlier c green.start.0 s - 1) green.steps
-  in_green_earlier =
-      let e : (s - 1 + (c - green.start.0)) % c ≡ earlier c green.start.0 s - 1 = omega (arith, order) in
-      in_green_is ∙ ap (λ (n : ℕ). ltb n green.steps) e
+          let g = ltb-false (earlier c green.start.0 s - 1) green.steps q in
+          omega arith)
 
 -- step k of a green stands k steps after its start post
 pub earlier_green : (c : ℕ) (green : Green) (k : ℕ) → GreenFits c green → 0 < k → k ≤ c → earlier c green.start.0 (green_step c green k) ≡ k

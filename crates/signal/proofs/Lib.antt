@@ -1,4 +1,4 @@
-pub mod Adding
 pub mod Greens
 pub mod Landing
+pub mod Parts
 pub mod Turn
