@@ -1,7 +1,7 @@
 // Figures of one exit's run: its total, what arrives on green, and the steps in which a crossing is blocked.
 #![tactic(auto)]
 
-ghost use Rattle.std.specs.Prelude.{◌≡◌, ◌<◌, ◌≤◌, length};
+ghost use Rattle.std.specs.Prelude.{◌≡◌, ◌*◌, ◌^◌, ◌<◌, ◌≤◌, length};
 ghost use Rattle.limits.specs.Limits.{step_bound};
 ghost use Rattle.lists.specs.Lists.{sum};
 ghost use Rattle.signal.specs.Greens.{GreenFits};
@@ -43,7 +43,8 @@ fn is_blocked(flow: u32, headway: u32) -> bool
 // What arrives in some steps.
 fn total(steps: &[u32]) -> u64
     requires { length steps.now < step_bound }
-    ensures { result ≡ sum steps.now }
+    ensures sum { result ≡ sum steps.now }
+    ensures small { result ≤ length steps.now * 2 ^ 32 }
 {
     steps.iter().map(|flow| u64::from(*flow)).sum()
 }
@@ -62,10 +63,11 @@ impl<'a> Run<'a> {
         total(self.steps)
     }
 
-    // What arrives in the green's steps: in those up to the cycle's end, then in those from step 1.
+    // What arrives in the green's steps: those up to the cycle's end, then those from step 1.
     fn green_flow(self, green: Green) -> u64
         requires { GreenFits (length self.steps.now) green }
-        ensures { result ≡ green_flow green self.entry.steps.now }
+        ensures flow { result ≡ green_flow green self.entry.steps.now }
+        ensures small { result < total_bound }
     {
         let place = signal::place_after(self.steps.len() as u32, green.start);
         let (again, ahead) = self.steps.split_at(place);

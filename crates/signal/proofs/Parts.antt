@@ -6,7 +6,7 @@ use Rattle.std.proofs.lemmas.List.{get_or-append-add, get_or_append_left, get_or
 use Rattle.lists.specs.Lists.{tab, tab_append, tab_is, map_tab, number_at}
 use Rattle.signal.specs.declared.Green.{Green}
 use Rattle.signal.specs.Turn.{turn}
-use Rattle.signal.proofs.Turn.{turn_pos, turn_le, turn_same, turn_cycle, turn_on}
+use Rattle.signal.proofs.Turn.{turn_pos, place_lt, turn_same, turn_cycle, turn_on}
 use Rattle.signal.specs.Greens.{green_step, green_steps}
 use Rattle.signal.specs.Landing.{added, onto}
 use Rattle.signal.specs.Parts.{Parted}
@@ -62,7 +62,7 @@ straight c t i (p ∷ ps) before (x ∷ run) at h =
 pub parted_at : (run : List ℕ) (t place : ℕ) → 0 < length run → place ≡ turn (length run) (t + 1) - 1 →
     Parted (length run) t (take place run) (drop place run)
 parted_at run t place some is =
-    let h : place < length run = omega (arith, turn_le (length run) (t + 1) some, turn_pos (length run) (t + 1)) in
+    let h = place_lt (length run) (t + 1) some in
     let front : length (take place run) ≡ place = length-take-le place run (omega arith) in
     record { cycle = omega (arith, front, length-drop place run); place = front ∙ is }
 

@@ -13,6 +13,10 @@ pub turn_le : (c n : ℕ) → 0 < c → turn c n ≤ c
 unfolding turn
 turn_le c n h = omega (arith, mod-lt (n - 1) {m = c} h)
 
+-- and so its place is one of a list of c
+pub place_lt : (c n : ℕ) → 0 < c → turn c n - 1 < c
+place_lt c n h = omega (arith, turn_le c n h, turn_pos c n)
+
 -- whole cycles away from the number
 pub turn_whole : (c n : ℕ) → 0 < n → n ≡ turn c n + c * ((n - 1) / c)
 unfolding turn

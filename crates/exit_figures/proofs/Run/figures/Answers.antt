@@ -9,4 +9,4 @@ permille-requires c = (omega (arith, green_flow_le c.args.green c.args.self.step
 
 pub returns : goal.returns
 unfolding figures_of
-returns c = rw (c.permille.ensures, c.green_flow-part.ensures.0, c.total-all.ensures)
+returns c = rw (c.permille.ensures, c.green_flow-part.ensures.flow, c.total-all.ensures)

@@ -1,19 +1,31 @@
-use Rattle.std.proofs.Common.{arith, rules, sym, ◌∙◌}
-use Rattle.exit_figures.specs.Laws.{green_flow_sum}
-use Rattle.exit_figures.proofs.Sums.{green_turn, tally_done}
+-- The two parts of the run that the green's steps take, no more steps than the run has.
+use Rattle.std.proofs.Common.{◌+◌, ◌-◌, ◌<◌, arith, length-take, ◌∙◌}
+use Rattle.exit_figures.specs.ExitFigures.{total_bound}
+use Rattle.exit_figures.proofs.Sums.{green_flow_parts}
 use Rattle.exit_figures.proofs.Run.green_flow.Goals as goal
-use Rattle.exit_figures.proofs.Run.green_flow.Goals.{then-in_green, else-in_green}
+use Rattle.exit_figures.proofs.Run.green_flow.Goals.{After-total-2}
 
-pub loop-k-preserved : goal.loop-k-preserved
-loop-k-preserved c =
-    let e = sym (rw c.requires at c.in_green.ensures) in
-    let s = c.step_at.ensures in
-    elim c.if-in_green.branch [
-      | then-in_green w ↦ green_turn _ c.args.self.steps.now c.loop-k.invariant (omega arith) s (e ∙ w.if-in_green.true) (omega arith) (search rules)
-      | else-in_green w ↦ green_turn _ c.args.self.steps.now c.loop-k.invariant (omega arith) s (e ∙ w.if-in_green.false) (omega arith) (omega arith)
-    ]
+bounded : (c : After-total-2) → c.total.result + c.total-2.result < total_bound
+bounded c =
+    let first = c.min-first.result in
+    omega (
+      arith,
+      c.total.ensures.small,
+      c.total-2.ensures.small,
+      length-take first c.split_at.result.1.now,
+      length-take (c.args.green.steps - first) c.split_at.result.0.now,
+      c.requires.steps,
+      c.args.self.short,
+    )
+
+pub overflow_add-result : goal.overflow_add-result
+overflow_add-result c = omega (arith, bounded c)
 
 pub returns : goal.returns
 returns c =
-    let r = c.loop-k.invariant in
-    (tally_done r c.loop-k-test.false ∙ sym (green_flow_sum _ _ (rw c.requires at c.args.timing.fits)), omega (arith, r.small, r.within, c.args.self.short))
+    let s = c.split_at.ensures in
+    let parts = green_flow_parts c.args.green c.args.self.steps.now c.place_after-place.result c.min-first.result c.requires in
+    record {
+      flow = rw (c.total.ensures.sum, c.total-2.ensures.sum, s.front, s.back) (parts c.place_after-place.ensures.place (rw s.back at c.min-first.ensures));
+      small = bounded c;
+    }
