@@ -1,35 +1,98 @@
--- The loops that add arrivals to a run where their steps land: what they keep, whatever is added of each arrival.
-use Rattle.std.proofs.Common.{ℕ, ◌+◌, ◌-◌, ◌≤◌, ◌<◌, arith, ◌≡◌, ap, ◌∙◌, List, ◌∷◌, length, set, get_or}
+-- Arrivals that are added to a run where they land: place by place in a part of it, and part by part in the run.
+use Rattle.std.proofs.Common.{ℕ, ◌+◌, ◌-◌, ◌≤◌, ◌<◌, arith, ◌≡◌, refl, ap, sym, ◌∙◌, List, [], ◌∷◌, ◌++◌, length, set, get_or, take, drop}
+use Rattle.std.proofs.Common.{add-one, drop-cons, drop_of_length-le, length-append, append_assoc, append-nil}
+use Rattle.std.proofs.lemmas.List.{nil_from_length, take-append-drop, length-take-le, length-drop}
 use Rattle.signal.specs.Turn.{turn}
-use Rattle.signal.proofs.Turn.{turn_le, turn_next}
-use Rattle.signal.specs.Adding.{Adding}
-use Rattle.signal.proofs.Adding.{place_within, adding_turn}
+use Rattle.signal.specs.Landing.{added, onto}
+use Rattle.signal.specs.Parts.{Parted}
+use Rattle.signal.proofs.Parts.{parted_at, added_parts}
 use Rattle.arrivals.specs.Arrivals.{LandsFit}
 
--- i arrivals are done, and what is left of all that they bring is to come; the next one lands in step `lands`
-pub record Landing (t : ℕ) (arrived all left run₀ run : List ℕ) (lands i : ℕ) : Type 0 where
-  pub within : i ≤ length arrived
-  pub place : lands ≡ turn (length run₀) (i + 1 + t)
-  pub adding : Adding t all left run₀ run i
+-- one number more, in its place
+onto_next : (ps run : List ℕ) (p : ℕ) → length ps < length run →
+    onto (ps ++ (p ∷ [])) run ≡ set (onto ps run) (length ps) (get_or (onto ps run) (length ps) 0 + p)
+unfolding onto
+onto_next [] [] p h = absurd (omega arith)
+onto_next [] (x ∷ run) p h = refl
+onto_next (q ∷ ps) [] p h = absurd (omega arith)
+onto_next (q ∷ ps) (x ∷ run) p h = ap (λ (l : List ℕ). (x + q) ∷ l) (onto_next ps run p (omega arith))
 
-module _ {t : ℕ} {arrived all left run₀ run : List ℕ} {lands i : ℕ} (r : Landing t arrived all left run₀ run lands i) (a : LandsFit t arrived run₀) where
-  -- the step that it lands in is one of the cycle
-  pub lands_le : lands ≤ length run₀
-  lands_le = rw r.place (turn_le (length run₀) (i + 1 + t) a.some)
+-- where none was added yet, what stood there
+onto_clear : (ps run : List ℕ) → get_or (onto ps run) (length ps) 0 ≡ get_or run (length ps) 0
+unfolding onto
+onto_clear [] run = refl
+onto_clear (q ∷ ps) [] = refl
+onto_clear (q ∷ ps) (x ∷ run) = onto_clear ps run
 
-  module _ (more : i < length arrived) {at : ℕ} (e : at ≡ lands - 1) where
-    in_cycle : i < length run₀
-    in_cycle = omega (arith, a.long)
+-- the parts of i arrivals stand in their places, `now` has those of the arrivals left and of any that come later
+pub record Laying (before now : List ℕ → List ℕ) (arrived run₀ run : List ℕ) (i : ℕ) : Type 0 where
+  pub gone : List ℕ
+  pub count : length gone ≡ i
+  pub same : (later : List ℕ) → before (arrived ++ later) ≡ gone ++ now (drop i arrived ++ later)
+  pub laid : run ≡ onto gone run₀
 
-    pub at_within : at < length run
-    at_within = place_within r.adding in_cycle r.place e
+pub laying_start : (before : List ℕ → List ℕ) (arrived run : List ℕ) → Laying before before arrived run run 0
+unfolding onto
+laying_start before arrived run = record { gone = []; count = refl; same = λ later. refl; laid = refl }
 
-    pub landing_turn : {p : ℕ} {ps : List ℕ} → left ≡ p ∷ ps → {after : ℕ} → after ≡ turn (length run₀) (lands + 1) →
-        Landing t arrived all ps run₀ (set run at (get_or run at 0 + p)) after (i + 1)
-    landing_turn next n =
-        let step : i + 1 + t + 1 ≡ i + 1 + 1 + t = omega arith in
-        record {
-          within = omega arith;
-          place = n ∙ rw r.place (turn_next (length run₀) (i + 1 + t) (omega arith)) ∙ ap (turn (length run₀)) step;
-          adding = adding_turn r.adding in_cycle r.place e next;
-        }
+module _ {before now : List ℕ → List ℕ} {arrived run₀ run : List ℕ} {i : ℕ} (r : Laying before now arrived run₀ run i) where
+  -- nothing was added to the next place yet
+  pub place_clear : get_or run i 0 ≡ get_or run₀ i 0
+  place_clear = rw (r.laid, ← r.count) (onto_clear r.gone run₀)
+
+  pub laying_turn : i < length arrived → length arrived ≤ length run₀ → {next : List ℕ → List ℕ} {p : ℕ} →
+      ((rest : List ℕ) → now (get_or arrived i 0 ∷ rest) ≡ p ∷ next rest) →
+      Laying before next arrived run₀ (set run i (get_or run i 0 + p)) (i + 1)
+  laying_turn more fits {next} {p} part =
+      record {
+        gone = r.gone ++ (p ∷ []);
+        count = length-append r.gone (p ∷ []) ∙ ap (λ (n : ℕ). n + 1) r.count;
+        same = λ later.
+            let e : drop i arrived ++ later ≡ get_or arrived i 0 ∷ (drop (i + 1) arrived ++ later) = rw (drop-cons arrived i 0 more, add-one i) in
+            r.same later ∙ ap (λ (l : List ℕ). r.gone ++ l) (ap now e ∙ part (drop (i + 1) arrived ++ later))
+            ∙ sym (append_assoc r.gone (p ∷ []) (next (drop (i + 1) arrived ++ later)));
+        laid = rw (r.laid, ← r.count) (sym (onto_next r.gone run₀ p (omega (arith, r.count))));
+      }
+
+  -- none left
+  module _ (done : length arrived ≤ i) (long : (l : List ℕ) → length (now l) ≡ length l) where
+    none : now [] ≡ []
+    none = nil_from_length (now []) (long [])
+
+    whole : (later : List ℕ) → before (arrived ++ later) ≡ r.gone ++ now later
+    whole later = r.same later ∙ rw (drop_of_length-le arrived done)
+
+    all : before arrived ≡ r.gone
+    all = ap before (sym (append-nil arrived)) ∙ whole [] ∙ rw none (append-nil r.gone)
+
+    pub all_laid : run ≡ onto (before arrived) run₀
+    all_laid = r.laid ∙ sym (ap (λ (l : List ℕ). onto l run₀) all)
+
+    pub to_come : (later : List ℕ) → before (arrived ++ later) ≡ before arrived ++ now later
+    to_come later = whole later ∙ ap (λ (l : List ℕ). l ++ now later) (sym all)
+
+-- a run's two parts; the first arrivals are as many as the part ahead, `now` has the parts of the rest
+module _ {arrived run : List ℕ} {t place : ℕ} (fits : LandsFit t arrived run) (at : place ≡ turn (length run) (t + 1) - 1)
+    {again ahead : List ℕ} (front : again ≡ take place run) (back : ahead ≡ drop place run)
+    {first rest : List ℕ} (begins : first ≡ take (length ahead) arrived) (ends : rest ≡ drop (length ahead) arrived) where
+  parted : Parted (length run) t again ahead
+  parted = rw (front, back) (parted_at run t place fits.some at)
+
+  begin_long : length first ≡ length ahead
+  begin_long = rw begins (length-take-le (length ahead) arrived (omega (arith, fits.long, parted.cycle)))
+
+  rest_long : length rest ≡ length again
+  rest_long = omega (arith, fits.long, parted.cycle, ap length ends, length-drop (length ahead) arrived)
+
+  pub landed_parts : (before now : List ℕ → List ℕ) → ((l : List ℕ) → length (before l) ≡ length l) → ((l : List ℕ) → length (now l) ≡ length l) →
+      ((later : List ℕ) → before (first ++ later) ≡ before first ++ now later) →
+      onto (now rest) again ++ onto (before first) ahead ≡ added (length run) t 1 (before arrived) run
+  landed_parts before now long long' to_come =
+      let c = length run in
+      let all : arrived ≡ first ++ rest = sym (rw (begins, ends) (take-append-drop (length ahead) arrived)) in
+      let whole : run ≡ again ++ ahead = sym (rw (front, back) (take-append-drop place run)) in
+      sym (ap (λ (l : List ℕ). added c t 1 (before l) run) all
+      ∙ ap (λ (l : List ℕ). added c t 1 l run) (to_come rest)
+      ∙ ap (added c t 1 (before first ++ now rest)) whole
+      ∙ added_parts parted fits.some (before first) (now rest)
+      (omega (arith, long first, begin_long)) (omega (arith, long' rest, rest_long)) (λ more. long first ∙ begin_long))

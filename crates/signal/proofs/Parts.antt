@@ -110,11 +110,11 @@ module _ {c t : ℕ} {again ahead : List ℕ} (parted : Parted c t again ahead) 
       ∙ tab_append f 1 m n
       ∙ rw (
         walked f 1 m ahead front (λ i h.
-        let e : green.start.0 + (1 + i) ≡ t + 1 + i = omega (arith, from) in
-        let at : turn c (green.start.0 + (1 + i)) - 1 ≡ length again + i = omega (arith, ap (turn c) e, ahead_turn i (omega arith)) in
-        sym (rw at (get_or-append-add again ahead i 0))),
+            let e : green.start.0 + (1 + i) ≡ t + 1 + i = omega (arith, from) in
+            let at : turn c (green.start.0 + (1 + i)) - 1 ≡ length again + i = omega (arith, ap (turn c) e, ahead_turn i (omega arith)) in
+            sym (rw at (get_or-append-add again ahead i 0))),
         walked f (1 + m) n again back (λ i h.
-        let e : green.start.0 + (1 + m + i) ≡ t + 1 + (length ahead + i) = omega (arith, from, full (omega arith)) in
-        let at : turn c (green.start.0 + (1 + m + i)) - 1 ≡ i = omega (arith, ap (turn c) e, again_turn i (omega (arith, parted.cycle))) in
-        sym (rw at (get_or_append_left again ahead 0 i (omega arith)))),
+            let e : green.start.0 + (1 + m + i) ≡ t + 1 + (length ahead + i) = omega (arith, from, full (omega arith)) in
+            let at : turn c (green.start.0 + (1 + m + i)) - 1 ≡ i = omega (arith, ap (turn c) e, again_turn i (omega (arith, parted.cycle))) in
+            sym (rw at (get_or_append_left again ahead 0 i (omega arith)))),
       )

@@ -7,4 +7,4 @@ pub returns-then-v-eq0 : goal.returns-then-v-eq0
 returns-then-v-eq0 c = none_added _ _ _ _ _ c.if-v-eq0.true
 
 pub returns : goal.returns
-returns c = rw (pair_parts c.args.v c.args.w c.args.arrived.now (omega (arith, c.requires.share))) c.add_parts.ensures
+returns c = rw (pair_parts c.args.v c.args.w c.args.arrived.now (omega (arith, c.requires.share))) c.land.ensures

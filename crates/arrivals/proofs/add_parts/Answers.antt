@@ -1,31 +1,26 @@
-use Rattle.std.proofs.Common.{arith, ◌∙◌, ap, drop-cons, drop_of_length-le, add-one}
-use Rattle.signal.proofs.Adding.{adding_done}
-use Rattle.arrivals.proofs.Landing.{lands_le, at_within, landing_turn}
+use Rattle.std.proofs.Common.{arith}
+use Rattle.arrivals.proofs.Landing.{laying_start, place_clear, laying_turn, all_laid, to_come}
 use Rattle.arrivals.proofs.add_parts.Goals as goal
 
-pub offset_bounds-run-at : goal.offset_bounds-run-at
-offset_bounds-run-at g c = omega (arith, at_within c.loop-arrival.invariant.1 c.requires.fits c.loop-arrival-test.true c.index-at.ensures)
+pub loop-i-init : goal.loop-i-init
+loop-i-init g c = (c.requires.fair, laying_start _ _ _)
 
-pub bounds-run-at : goal.bounds-run-at
-bounds-run-at g c = at_within c.loop-arrival.invariant.1 c.requires.fits c.loop-arrival-test.true c.index-at.ensures
+pub part-requires : goal.part-requires
+part-requires g c = c.loop-i.invariant.0
 
-pub bounds-run-at-in-loop-arrival : goal.bounds-run-at-in-loop-arrival
-bounds-run-at-in-loop-arrival g c = at_within c.loop-arrival.invariant.1 c.requires.fits c.loop-arrival-test.true c.index-at.ensures
+pub overflow_add-part : goal.overflow_add-part
+overflow_add-part g c =
+    let i = c.loop-i.i in
+    omega (arith, place_clear c.loop-i.invariant.1, c.part.ensures.no_more, c.requires.fits.small i, c.requires.fits.arrivals i)
 
-pub next-lands-requires : goal.next-lands-requires
-next-lands-requires g c = lands_le c.loop-arrival.invariant.1 c.requires.fits
+pub loop-i-preserved : goal.loop-i-preserved
+loop-i-preserved g c = (c.part.ensures.fair, laying_turn c.loop-i.invariant.1 c.loop-i-test.true c.requires.fits.long c.part.ensures.part)
 
-pub loop-arrival-preserved : goal.loop-arrival-preserved
-loop-arrival-preserved g c =
-    let s = g.S.Share in
-    let arrived = c.args.arrived.now in
-    let next =
-    ap (s.parts c.loop-arrival.share) (rw add-one (drop-cons arrived c.loop-arrival.arrival-index 0 c.loop-arrival-test.true))
-    ∙ c.part.ensures.part _ in
-    (c.part.ensures.fair, landing_turn c.loop-arrival.invariant.1 c.requires.fits c.loop-arrival-test.true c.index-at.ensures next c.next-lands.ensures)
+pub returns-clause-fair : goal.returns-clause-fair
+returns-clause-fair g c = c.loop-i.invariant.0
 
-pub returns : goal.returns
-returns g c =
-    let s = g.S.Share in
-    let none = ap (s.parts c.loop-arrival.share) (drop_of_length-le _ c.loop-arrival-test.false) ∙ g.met.S.Share.none _ in
-    adding_done c.loop-arrival.invariant.1.adding none
+pub returns-clause-added : goal.returns-clause-added
+returns-clause-added g c = all_laid c.loop-i.invariant.1 c.loop-i-test.false (g.met.S.Share.long _)
+
+pub returns-clause-to_come : goal.returns-clause-to_come
+returns-clause-to_come g c = to_come c.loop-i.invariant.1 c.loop-i-test.false (g.met.S.Share.long _)

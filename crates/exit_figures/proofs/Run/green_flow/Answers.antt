@@ -1,5 +1,5 @@
 -- The two parts of the run that the green's steps take, no more steps than the run has.
-use Rattle.std.proofs.Common.{◌+◌, ◌-◌, ◌<◌, arith, length-take, ◌∙◌}
+use Rattle.std.proofs.Common.{◌+◌, ◌-◌, ◌<◌, arith, length-take}
 use Rattle.exit_figures.specs.ExitFigures.{total_bound}
 use Rattle.exit_figures.proofs.Sums.{green_flow_parts}
 use Rattle.exit_figures.proofs.Run.green_flow.Goals as goal
