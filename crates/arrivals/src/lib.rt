@@ -70,7 +70,7 @@ impl Share for Pair {
 }
 
 // Arrivals one after another: the part of each is added to the number in its place of a run's part.
-fn add_parts<S: Share + Copy>(arrived: &[u32], share: &mut S, part: &mut [u32])
+fn add_parts<S: Share>(arrived: &[u32], share: &mut S, part: &mut [u32])
     requires fits { PartsFit arrived.now part.old }
     requires fair { S.fair share.old }
     ensures fair { S.fair share.new }

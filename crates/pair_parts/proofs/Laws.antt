@@ -16,11 +16,6 @@ pub part_le : (v w carry a : ℕ) → v ≤ w → carry < w → part_of v w carr
 part_le v w carry a h hc =
     omega (arith, (div-lt_iff_lt-mul {k = w} {x = a * v + carry} {y = suc a} (omega arith)).1 (omega (arith, mul-le-mul_left a h)))
 
--- no arrivals have no parts
-pub parts_none : (v w carry : ℕ) → parts v w carry [] ≡ []
-unfolding parts
-parts_none v w carry = refl
-
 pub parts_length : (v w carry : ℕ) (l : List ℕ) → length (parts v w carry l) ≡ length l
 unfolding parts
 parts_length v w carry [] = refl
