@@ -1,7 +1,7 @@
 // Figures of one exit's run: its total, what arrives on green, and the steps in which a crossing is blocked.
 #![tactic(auto)]
 
-ghost use Rattle.std.specs.Prelude.{◌≡◌, ◌*◌, ◌^◌, ◌<◌, ◌≤◌, length};
+ghost use Rattle.std.specs.Prelude.{◌≡◌, ◌<◌, ◌≤◌, length};
 ghost use Rattle.limits.specs.Limits.{step_bound};
 ghost use Rattle.lists.specs.Lists.{sum};
 ghost use Rattle.signal.specs.Greens.{GreenFits};
@@ -44,7 +44,7 @@ fn is_blocked(flow: u32, headway: u32) -> bool
 fn total(steps: &[u32]) -> u64
     requires { length steps.now < step_bound }
     ensures sum { result ≡ sum steps.now }
-    ensures small { result ≤ length steps.now * 2 ^ 32 }
+    ensures small { result < total_bound }
 {
     steps.iter().map(|flow| u64::from(*flow)).sum()
 }
@@ -66,8 +66,7 @@ impl<'a> Run<'a> {
     // What arrives in the green's steps: those up to the cycle's end, then those from step 1.
     fn green_flow(self, green: Green) -> u64
         requires { GreenFits (length self.steps.now) green }
-        ensures flow { result ≡ green_flow green self.entry.steps.now }
-        ensures small { result < total_bound }
+        ensures { result ≡ green_flow green self.entry.steps.now }
     {
         let place = signal::place_after(self.steps.len() as u32, green.start);
         let (again, ahead) = self.steps.split_at(place);
@@ -81,7 +80,7 @@ impl<'a> Run<'a> {
         requires { GreenFits (length self.steps.now) green }
         ensures { result ≡ figures_of green self.entry.steps.now }
     {
-        let all = self.total();
+        let all = total(self.steps);
         let part = self.green_flow(green);
         ExitFigures {
             total: all,

@@ -15,7 +15,7 @@ use Rattle.signal.specs.Greens.{GreenFits, green_step, green_steps, has, in_gree
 -- it lies k steps past the start post
 pub green_lands : (c : ℕ) (green : Green) (k : ℕ) → green_step c green k ≡ turn c (k + green.start.0)
 unfolding green_step
-green_lands c green k = let e : green.start.0 + k ≡ k + green.start.0 = omega arith in rw e
+green_lands c green k = ap (turn c) (omega arith)
 
 -- each lies from 1 to c
 pub green_pos : (c : ℕ) (green : Green) (k : ℕ) → 0 < green_step c green k

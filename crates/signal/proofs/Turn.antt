@@ -44,11 +44,11 @@ turn_on c n k pos =
 
 pub earlier_pos : (c t s : ℕ) → 0 < earlier c t s
 unfolding earlier
-earlier_pos c t s = turn_pos c (s + c * t - t)
+earlier_pos c t s = turn_pos c _
 
 pub earlier_le : (c t s : ℕ) → 0 < c → earlier c t s ≤ c
 unfolding earlier
-earlier_le c t s h = turn_le c (s + c * t - t) h
+earlier_le c t s h = turn_le c _ h
 
 -- t steps back and t steps on
 module _ (c t s : ℕ) (pos : 0 < s) (fits : s ≤ c) where
@@ -60,9 +60,7 @@ module _ (c t s : ℕ) (pos : 0 < s) (fits : s ≤ c) where
 
   pub earlier_lands : turn c (earlier c t s + t) ≡ s
   unfolding earlier
-  earlier_lands =
-      let e : s + c * t - t + t ≡ s + c * t = omega (arith, on) in
-      turn_on c (s + c * t - t) t (omega (arith, on)) ∙ rw e round
+  earlier_lands = turn_on c _ t (omega (arith, on)) ∙ ap (turn c) (omega (arith, on)) ∙ round
 
   pub earlier_of : earlier c t (turn c (s + t)) ≡ s
   unfolding earlier

@@ -5,8 +5,10 @@ use Rattle.exit_figures.specs.Laws.{green_flow_le}
 use Rattle.exit_figures.proofs.Run.figures.Goals as goal
 
 pub permille-requires : goal.permille-requires
-permille-requires c = (omega (arith, green_flow_le c.args.green c.args.self.steps.now c.requires), omega arith)
+permille-requires c =
+    let part = green_flow_le c.args.green c.args.self.steps.now c.requires in
+    (omega (arith, part, c.total-all.ensures.sum), omega (arith, part, c.total-all.ensures.sum, c.total-all.ensures.small))
 
 pub returns : goal.returns
 unfolding figures_of
-returns c = rw (c.permille.ensures, c.green_flow-part.ensures.flow, c.total-all.ensures)
+returns c = rw (c.permille.ensures, c.green_flow-part.ensures, c.total-all.ensures.sum)
