@@ -6,7 +6,8 @@ ghost use Rattle.limits.specs.Limits.{entry_limit, flow_limit, most_arriving, st
 ghost use Rattle.movements.specs.Movements.{flow_units};
 ghost use Rattle.signal.specs.Greens.{GreenFits};
 ghost use Rattle.signal.specs.Landing.{added};
-ghost use Rattle.platoon.specs.Discharge.{ServeFits, cycle_bound, green_flows, profile_of, queue_of, served, served_of, waits_after};
+ghost use Rattle.platoon.specs.Discharge.{cycle_bound, green_flows, profile_of, queue_of, served, served_of, waits_after};
+ghost use Rattle.platoon.specs.Serving.{ServeFits};
 
 use movements::flow_units;
 use signal::Green;
