@@ -1,12 +1,12 @@
 -- Laws of served and waits_after: a green's steps in two parts.
 use Rattle.std.specs.Prelude.{ℕ, zero, suc, ◌+◌, ◌-◌, ◌*◌, ◌/◌, min, ◌≤◌, ◌<◌, ◌≡◌, List, [], ◌∷◌, ◌++◌}
-use Rattle.std.proofs.Common.{arith, ap, mul-le-mul_right}
+use Rattle.std.proofs.Common.{arith, ap, sym, mul-le-mul_right}
 use Rattle.std.proofs.Math.Nat.{div-le_of_le-mul}
 use Rattle.platoon.specs.Discharge.{received, served_of, served, waits_after}
 use Rattle.platoon.specs.GreenOrder.{more_arrived}
 
 -- n steps, then m with what waits after the n
-pub served_append : (all g rate n m k waiting : ℕ) →
+served_append : (all g rate n m k waiting : ℕ) →
     served all g rate (n + m) k waiting ≡ served all g rate n k waiting ++ served all g rate m (k + n) (waits_after all g rate n k waiting)
 unfolding served waits_after
 served_append all g rate zero m k waiting =
@@ -30,6 +30,15 @@ waits_append all g rate (suc n) m k waiting =
     let e : k + suc n ≡ suc k + n = omega arith in
     let z : suc n + m ≡ suc (n + m) = omega arith in
     rw (e, z) (waits_append all g rate n m (suc k) (served_of (waiting + received all g k) rate).waiting)
+
+-- a whole green: m steps, then the others
+pub served_whole : (all g rate m waiting : ℕ) → m ≤ g →
+    served all g rate m 1 waiting ++ served all g rate (g - m) (m + 1) (waits_after all g rate m 1 waiting) ≡ served all g rate g 1 waiting
+served_whole all g rate m waiting within =
+    let e : 1 + m ≡ m + 1 = omega arith in
+    let z : m + (g - m) ≡ g = omega arith in
+    let parts = served_append all g rate m (g - m) 1 waiting in
+    sym (rw (e, z) at parts)
 
 -- one step more
 pub served_more : (all g rate n k waiting : ℕ) →
