@@ -53,7 +53,7 @@ unfolding waits_after
 waits_more all g rate n k waiting = waits_append all g rate n 1 k waiting
 
 -- no more than what waited and what has arrived since
-pub waits_le : (all g rate n k waiting : ℕ) → 0 < g → 0 < k →
+waits_le : (all g rate n k waiting : ℕ) → 0 < g → 0 < k →
     waits_after all g rate n k waiting ≤ waiting + ((k + n - 1) * all / g - (k - 1) * all / g)
 unfolding waits_after served_of received
 waits_le all g rate zero k waiting pos from = omega arith

@@ -52,6 +52,7 @@ fn arrived(k: u32, arriving: u64, g: u32) -> u64
 fn serve_steps(queue: Queue, g: u32, gone: u32, part: &mut [u32]) -> u64
     requires { ServeFits queue g gone part.old }
     ensures waiting { result ≡ waits_after queue.arriving g queue.rate (length part.old) (gone + 1) queue.waiting }
+    ensures no_more { result ≤ queue.waiting + queue.arriving }
     ensures part { part.new ≡ served queue.arriving g queue.rate (length part.old) (gone + 1) queue.waiting }
 {
     let mut waiting = queue.waiting;

@@ -1,6 +1,5 @@
 -- The run is parted in it; the second part is served as the first, and both hold the green's whole discharge.
-use Rattle.std.proofs.Common.{arith}
-use Rattle.platoon.proofs.Serving.{released_none, place_in, rest_asks, released}
+use Rattle.platoon.proofs.Serving.{released_none, place_in, released}
 use Rattle.platoon.proofs.release.Goals as goal
 
 pub returns-then-g-eq0 : goal.returns-then-g-eq0
@@ -8,12 +7,6 @@ returns-then-g-eq0 c = released_none _ _ _ c.if-g-eq0.true
 
 pub split_at_mut-again-requires : goal.split_at_mut-again-requires
 split_at_mut-again-requires c = place_in _ _ _ c.requires.green_fits.1 c.place_after.ensures
-
-pub serve_steps-requires : goal.serve_steps-requires
-serve_steps-requires c =
-    let parts = c.split_at_mut-again.ensures in
-    rest_asks _ _ c.requires.green_fits.1 c.place_after.ensures parts.front parts.back c.min-first.ensures _ c.serve_steps-waiting.ensures.waiting
-    (omega (arith, c.if-g-eq0.false)) c.requires.green_fits.0 c.requires.waiting_le_cycle_bound
 
 pub returns : goal.returns
 returns c =

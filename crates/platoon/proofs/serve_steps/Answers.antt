@@ -1,6 +1,6 @@
 -- What has arrived grows, and what waits is small; at the part's end every place is served.
 use Rattle.std.proofs.Common.{arith}
-use Rattle.platoon.proofs.Serving.{serving_start, reaches, waits_small, serving_turn, serving_done}
+use Rattle.platoon.proofs.Serving.{serving_start, waits_no_more, reaches, waits_small, serving_turn, serving_done}
 use Rattle.platoon.proofs.serve_steps.Goals as goal
 
 pub loop-i-init : goal.loop-i-init
@@ -18,6 +18,9 @@ loop-i-preserved c =
 
 pub returns-clause-waiting : goal.returns-clause-waiting
 returns-clause-waiting c = (serving_done c.loop-i.invariant c.loop-i.auto.part c.loop-i.auto.i-end c.loop-i-test.false).0
+
+pub returns-clause-no_more : goal.returns-clause-no_more
+returns-clause-no_more c = waits_no_more c.requires c.loop-i.invariant c.loop-i.auto.i-end
 
 pub returns-clause-part : goal.returns-clause-part
 returns-clause-part c = (serving_done c.loop-i.invariant c.loop-i.auto.part c.loop-i.auto.i-end c.loop-i-test.false).1
