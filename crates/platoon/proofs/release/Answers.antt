@@ -1,4 +1,4 @@
--- The run is parted in it; the second part is served as the first, and both hold the green's whole discharge.
+-- The run is parted within it, and its parts hold the whole discharge of the green.
 use Rattle.platoon.proofs.Serving.{released_none, place_in, released}
 use Rattle.platoon.proofs.release.Goals as goal
 

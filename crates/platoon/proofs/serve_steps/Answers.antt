@@ -1,4 +1,4 @@
--- What has arrived grows, and what waits is small; at the part's end every place is served.
+-- What has arrived grows, and what waits is small; in the end every place holds its step's discharge.
 use Rattle.std.proofs.Common.{arith}
 use Rattle.platoon.proofs.Serving.{serving_start, waits_no_more, reaches, waits_small, serving_turn, serving_done}
 use Rattle.platoon.proofs.serve_steps.Goals as goal
