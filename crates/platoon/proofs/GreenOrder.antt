@@ -40,7 +40,7 @@ green_step_lem g q k first fits =
     served_at all g q.rate _ 1 q.waiting (k - 1) (omega arith) (omega arith) ∙ rw (e, z, none) (ap (min q.rate) (omega arith))
 
 -- a number for each green step
-served_length : (all g rate n k waiting : ℕ) → length (served all g rate n k waiting) ≡ n
+pub served_length : (all g rate n k waiting : ℕ) → length (served all g rate n k waiting) ≡ n
 unfolding served
 served_length all g rate zero k waiting = refl
 served_length all g rate (suc n) k waiting =

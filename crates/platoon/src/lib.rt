@@ -6,7 +6,8 @@ ghost use Rattle.limits.specs.Limits.{entry_limit, flow_limit, most_arriving, st
 ghost use Rattle.movements.specs.Movements.{flow_units};
 ghost use Rattle.signal.specs.Greens.{GreenFits};
 ghost use Rattle.signal.specs.Landing.{added};
-ghost use Rattle.platoon.specs.Discharge.{ServeFits, cycle_bound, green_flows, profile_of, queue_of, served, served_of, waits_after};
+ghost use Rattle.platoon.specs.Discharge.{cycle_bound, green_flows, profile_of, queue_of, served, served_of, waits_after};
+ghost use Rattle.platoon.specs.Serving.{ServeFits};
 
 use movements::flow_units;
 use signal::Green;
@@ -51,6 +52,7 @@ fn arrived(k: u32, arriving: u64, g: u32) -> u64
 fn serve_steps(queue: Queue, g: u32, gone: u32, part: &mut [u32]) -> u64
     requires { ServeFits queue g gone part.old }
     ensures waiting { result ≡ waits_after queue.arriving g queue.rate (length part.old) (gone + 1) queue.waiting }
+    ensures no_more { result ≤ queue.waiting + queue.arriving }
     ensures part { part.new ≡ served queue.arriving g queue.rate (length part.old) (gone + 1) queue.waiting }
 {
     let mut waiting = queue.waiting;
