@@ -5,4 +5,4 @@ use Rattle.exit_figures.proofs.Run.green_flow.Goals as goal
 pub returns : goal.returns
 returns c =
     let run = c.split_at.ensures in
-    green_flow_parts c.requires c.place_after-place.ensures.place run.front run.back c.min-first.ensures c.total.ensures.sum c.total-2.ensures.sum
+    green_flow_parts _ _ c.requires c.place_after-place.ensures.place run.front run.back c.min-first.ensures c.total.ensures.sum c.total-2.ensures.sum
