@@ -4,7 +4,7 @@ use Rattle.platoon.proofs.Serving.{serving_start, waits_no_more, reaches, waits_
 use Rattle.platoon.proofs.serve_steps.Goals as goal
 
 pub loop-i-init : goal.loop-i-init
-loop-i-init c = serving_start _ _ _ _ _ c.arrived-passed.ensures
+loop-i-init c = serving_start _ _ _ _ c.arrived-passed.ensures
 
 pub overflow_sub-reached : goal.overflow_sub-reached
 overflow_sub-reached c = reaches c.requires c.loop-i.invariant c.loop-i-test.true c.arrived-reached.ensures
@@ -14,13 +14,13 @@ overflow_add-waiting c = omega (arith, waits_small c.requires c.loop-i.invariant
 
 pub loop-i-preserved : goal.loop-i-preserved
 loop-i-preserved c =
-    serving_turn c.requires c.loop-i.invariant c.loop-i-test.true c.arrived-reached.ensures c.loop-i.auto.part _ c.serve-step.ensures
+    serving_turn c.requires c.loop-i.invariant c.loop-i-test.true c.arrived-reached.ensures c.loop-i.auto.part c.serve-step.ensures
 
 pub returns-clause-waiting : goal.returns-clause-waiting
-returns-clause-waiting c = (serving_done c.loop-i.invariant c.loop-i.auto.part c.loop-i.auto.i-end c.loop-i-test.false).0
+returns-clause-waiting c = (serving_done c.loop-i.invariant c.loop-i.auto.part c.loop-i-test.false).0
 
 pub returns-clause-no_more : goal.returns-clause-no_more
 returns-clause-no_more c = waits_no_more c.requires c.loop-i.invariant c.loop-i.auto.i-end
 
 pub returns-clause-part : goal.returns-clause-part
-returns-clause-part c = (serving_done c.loop-i.invariant c.loop-i.auto.part c.loop-i.auto.i-end c.loop-i-test.false).1
+returns-clause-part c = (serving_done c.loop-i.invariant c.loop-i.auto.part c.loop-i-test.false).1
