@@ -1,10 +1,10 @@
 //! Checks of a working's result against the exact flows: demand 3, the repeating flow, the points.
 
-use crate::arrivals::{landings, total, PairShare};
+use crate::arrivals::{landing, total, PairShare};
 use crate::discharge::entry_discharge;
 use crate::dispersion::{arrival_time, denominator, Link, CYCLES, NUMERATOR};
 use crate::exact::{Exact, ExactArrivals};
-use crate::greens::{turned, Step};
+use crate::greens::Step;
 use crate::metering::discharge_volumes;
 use crate::points::Point;
 use crate::record::{Record, ACCESS, RIGHT};
@@ -73,9 +73,8 @@ fn platoons(record: &Record) -> Vec<Platoon> {
     let platoon = |i: usize| {
         let leaving = entry_discharge(&record.entries[i], record.cycle);
         let mut link = Link::empty(record.running_time);
-        let counts = 1..=CYCLES as u32 * record.cycle;
-        let all = counts.map(|count| leaving[turned(count, record.cycle).index()]);
-        let arrivals = all.map(|q| link.step(q)).collect();
+        let all = leaving.iter().cycle().take(CYCLES * leaving.len());
+        let arrivals = all.map(|&q| link.step(q)).collect();
         Platoon {
             volume: volumes[i],
             leaving,
@@ -132,7 +131,8 @@ fn check_places(
     exact: Exact,
 ) -> Result<(), String> {
     let cycle = reported.len() as u32;
-    for (arrivals, landed) in reported.zip(landings(shift, cycle)) {
+    for (arrivals, step) in reported.zip(1..) {
+        let landed = landing(Step(step), shift, cycle);
         for place in places {
             place.check(&arrivals, landed).map_err(|distance| {
                 let (name, exact, step) = (&place.name, exact.name(), landed.0);

@@ -43,14 +43,16 @@ pub fn add_pair(arrivals: &[u32], flow: u32, volume: u32, shift: u32, run: &mut 
         return;
     }
     let mut share = PairShare::new(flow, volume);
-    for (step, &arrival) in landings(shift, run.len() as u32).zip(arrivals) {
-        run[step.index()] += share.take(arrival);
+    for (place, &arrival) in landed(run, shift).zip(arrivals) {
+        *place += share.take(arrival);
     }
 }
 
-/// Where the steps of a discharge land, in their order, `shift` steps later.
-pub fn landings(shift: u32, cycle: u32) -> impl Iterator<Item = Step> {
-    (1..=cycle).map(move |step| landing(Step(step), shift, cycle))
+/// The places of a run in discharge order, landed `shift` steps later.
+pub fn landed(run: &mut [u32], shift: u32) -> impl Iterator<Item = &mut u32> {
+    let first = landing(Step(1), shift, run.len() as u32);
+    let (early, late) = run.split_at_mut(first.index());
+    late.iter_mut().chain(early)
 }
 
 /// Where a discharge step lands, `shift` steps later.

@@ -1,7 +1,6 @@
 //! The dispersion worked exactly, in fractions: the flow from an empty link, and the repeating flow.
 
 use crate::dispersion::{denominator, CYCLES, NUMERATOR};
-use crate::greens::turned;
 use crate::natural::Natural;
 use std::iter::successors;
 
@@ -79,10 +78,9 @@ pub fn from_empty(discharges: &[&[u32]], running_time: u32, cycles: usize) -> Ve
         over: Natural::one(),
     };
     let mut last = Vec::with_capacity(steps);
-    for k in 1..=cycles * steps {
-        let step = turned(k as u32, steps as u32);
-        now.step(discharges.iter().map(|q| q[step.index()]), divisor);
-        if k > (cycles - 1) * steps {
+    for k in 0..cycles * steps {
+        now.step(discharges.iter().map(|q| q[k % steps]), divisor);
+        if k >= (cycles - 1) * steps {
             last.push(now.clone());
         }
     }

@@ -1,6 +1,6 @@
 //! Points along the segment (paper: driveways), and the working with them.
 
-use crate::arrivals::{blocked_steps, landings};
+use crate::arrivals::{blocked_steps, landed};
 use crate::dispersion::{arrival_time, Ending, Link};
 use crate::record::{decode, Record, ACCESS, HEADWAYS, RUNNING_TIME_LEAST};
 use crate::refusal::{self, Refusal};
@@ -92,8 +92,8 @@ fn add_entry(leaving: &[u32], points: &[Point], ending: Ending, runs: &mut [u32]
     for (point, run) in points.iter().zip(runs.chunks_exact_mut(leaving.len())) {
         let shift = arrival_time(point.running);
         let mut link = Link::before_last(leaving, point.running, ending);
-        for (step, &leaving) in landings(shift, run.len() as u32).zip(leaving) {
-            run[step.index()] += link.step(leaving);
+        for (place, &leaving) in landed(run, shift).zip(leaving) {
+            *place += link.step(leaving);
         }
     }
 }

@@ -3,7 +3,7 @@
 use std::ops::RangeInclusive;
 
 use reference::accuracy::{check_balance, check_working, Worked};
-use reference::arrivals::{add_pair, landings};
+use reference::arrivals::add_pair;
 use reference::discharge::discharge;
 use reference::dispersion::{disperse_cycles, Ending, Link, CYCLES};
 use reference::exact::Exact;
@@ -228,13 +228,11 @@ fn undispersed_fails() {
     let mut leaving = [0; 90];
     discharge(&run.bytes, &mut leaving).unwrap();
     let flows = run.working.flows;
-    for (j, exit) in run.output[..120].chunks_exact_mut(30).enumerate() {
-        for (step, landed) in landings(34, 30).enumerate() {
-            let whole = |i: usize| flows[i].iter().map(|&v| u64::from(v)).sum::<u64>();
-            let pair =
-                |i: usize| u64::from(leaving[30 * i + step]) * u64::from(flows[i][j]) / whole(i);
-            exit[landed.index()] = flows[3][j] + (0..3).map(pair).sum::<u64>() as u32;
-        }
+    for (n, place) in run.output[..120].iter_mut().enumerate() {
+        let (j, step) = (n / 30, (n % 30 + 60 - 34) % 30);
+        let whole = |i: usize| flows[i].iter().map(|&v| u64::from(v)).sum::<u64>();
+        let pair = |i: usize| u64::from(leaving[30 * i + step]) * u64::from(flows[i][j]) / whole(i);
+        *place = flows[3][j] + (0..3).map(pair).sum::<u64>() as u32;
     }
     assert!(run.fault().contains("off the flow from empty"));
     let repeating = run.check(REPEATING).unwrap_err();

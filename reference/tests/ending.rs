@@ -1,7 +1,6 @@
 //! The cycles that only repeat may be left out: every number stays.
 
 use reference::dispersion::{cycles_to_rest, disperse, disperse_cycles, Ending, Link, CYCLES};
-use reference::greens::{Green, Post};
 use reference::points::{work_points, work_points_ending, Points};
 use reference::random::Random;
 use reference::record::{read_u32, RUNNING_TIME_AT};
@@ -93,12 +92,8 @@ fn random_discharge(random: &mut Random) -> Vec<u32> {
     let mut leaving = vec![0; 30];
     let (start, length) = (random.below(30), random.between(1, 30));
     let flow = random.between(1, 12_000_000);
-    let green = Green {
-        start: Post(start),
-        length,
-    };
-    for step in green.steps(30) {
-        leaving[step.index()] = flow;
+    for step in start..start + length {
+        leaving[step as usize % 30] = flow;
     }
     leaving
 }

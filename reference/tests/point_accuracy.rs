@@ -3,7 +3,7 @@
 use std::ops::RangeInclusive;
 
 use reference::accuracy::check_points;
-use reference::arrivals::landings;
+use reference::arrivals::landed;
 use reference::discharge::discharge;
 use reference::dispersion::{arrival_time, disperse_cycles, Ending, CYCLES};
 use reference::exact::Exact;
@@ -119,8 +119,8 @@ impl Sample {
             let (time, all) = (point.running, Ending::AllCycles);
             for entry in leaving.chunks_exact(30) {
                 let arrivals = disperse_cycles(entry, time, cycles, all, &mut first, &mut second);
-                let landed = landings(arrival_time(time), 30).zip(arrivals);
-                landed.for_each(|(step, arrival)| run[step.index()] += arrival);
+                let places = landed(run, arrival_time(time)).zip(arrivals);
+                places.for_each(|(place, arrival)| *place += arrival);
             }
         }
         runs

@@ -4,7 +4,6 @@ use reference::arrivals::PairShare;
 use reference::discharge::entry_discharge;
 use reference::dispersion::{denominator, disperse, Ending, CYCLES, NUMERATOR};
 use reference::exact::{from_empty, repeating, ExactArrivals};
-use reference::greens::turned;
 use reference::metering::discharge_volume;
 use reference::natural::Natural;
 use reference::random::Random;
@@ -26,10 +25,8 @@ fn random_discharges(random: &mut Random, cycle: u32) -> Vec<(Vec<u32>, u32)> {
 /// D·y = N·q + (D-N)·y' for each entry, y' being that of the step before; the last step stands before the first.
 fn repeats(flow: &[ExactArrivals], discharges: &[&[u32]], running_time: u32) -> bool {
     let divisor = denominator(running_time);
-    let cycle = flow.len() as u32;
     let satisfies = |k: usize, i: usize| {
-        // step k + 1, and the one before, a cycle on
-        let (now, before) = (&flow[k], &flow[turned(k as u32 + cycle, cycle).index()]);
+        let (now, before) = (&flow[k], &flow[(k + flow.len() - 1) % flow.len()]);
         let mut factors = vec![0; discharges.len()];
         factors[i] = divisor - NUMERATOR;
         let made = before.flow(&factors, NUMERATOR * u64::from(discharges[i][k]));

@@ -1,6 +1,6 @@
 //! The turn past the end of the cycle: the step that a number is, counted from 1.
 
-use reference::arrivals::landings;
+use reference::arrivals::landing;
 use reference::dispersion::arrival_time;
 use reference::greens::{turned, Green, Post, Step};
 use reference::random::Random;
@@ -113,10 +113,8 @@ fn greens_and_landings() {
             assert!(follow(post, green.steps(cycle), cycle), "{post} {cycle}");
         }
         for shift in 1..=arrival_time(RUNNING_TIME_MOST) {
-            assert!(
-                follow(shift, landings(shift, cycle), cycle),
-                "{shift} {cycle}"
-            );
+            let landings = (1..=cycle).map(|step| landing(Step(step), shift, cycle));
+            assert!(follow(shift, landings, cycle), "{shift} {cycle}");
         }
     }
 }
