@@ -1,11 +1,10 @@
 -- Arrivals that are added to a run where they land: place by place in a part of it, and part by part in the run.
-use Rattle.std.proofs.Common.{ℕ, ◌+◌, ◌-◌, ◌≤◌, ◌<◌, arith, ◌≡◌, refl, ap, sym, ◌∙◌, List, [], ◌∷◌, ◌++◌, length, set, get_or, take, drop}
+use Rattle.std.proofs.Common.{ℕ, ◌+◌, ◌≤◌, ◌<◌, arith, ◌≡◌, refl, ap, sym, ◌∙◌, List, [], ◌∷◌, ◌++◌, length, set, get_or, take, drop}
 use Rattle.std.proofs.Common.{add-one, drop-cons, drop_of_length-le, length-append, append_assoc, append-nil}
 use Rattle.std.proofs.lemmas.List.{nil_from_length, take-append-drop, length-take-le, length-drop}
-use Rattle.signal.specs.Turn.{turn}
 use Rattle.signal.specs.Landing.{added, onto}
 use Rattle.signal.specs.Parts.{Parted}
-use Rattle.signal.proofs.Parts.{parted_at, added_parts}
+use Rattle.signal.proofs.Parts.{parts_length, added_parts}
 use Rattle.arrivals.specs.Arrivals.{LandsFit}
 
 -- one number more, in its place
@@ -71,28 +70,20 @@ module _ {before now : List ℕ → List ℕ} {arrived run₀ run : List ℕ} {i
     pub to_come : (later : List ℕ) → before (arrived ++ later) ≡ before arrived ++ now later
     to_come later = whole later ∙ ap (λ (l : List ℕ). l ++ now later) (sym all)
 
--- a run's two parts; the first arrivals are as many as the part ahead, `now` has the parts of the rest
-module _ {arrived run : List ℕ} {t place : ℕ} (fits : LandsFit t arrived run) (at : place ≡ turn (length run) (t + 1) - 1)
-    {again ahead : List ℕ} (front : again ≡ take place run) (back : ahead ≡ drop place run)
-    {first rest : List ℕ} (begins : first ≡ take (length ahead) arrived) (ends : rest ≡ drop (length ahead) arrived) where
-  parted : Parted (length run) t again ahead
-  parted = rw (front, back) (parted_at run t place fits.some at)
-
+-- a run's two parts: the first arrivals are as many as the part ahead, `now` has the parts of the rest
+module _ {arrived run again ahead first rest : List ℕ} {t : ℕ} (fits : LandsFit t arrived run) (parted : Parted t run again ahead)
+    (begins : first ≡ take (length ahead) arrived) (ends : rest ≡ drop (length ahead) arrived) where
   begin_long : length first ≡ length ahead
-  begin_long = rw begins (length-take-le (length ahead) arrived (omega (arith, fits.long, parted.cycle)))
+  begin_long = rw begins (length-take-le (length ahead) arrived (omega (arith, fits.long, parts_length parted)))
 
   rest_long : length rest ≡ length again
-  rest_long = omega (arith, fits.long, parted.cycle, ap length ends, length-drop (length ahead) arrived)
+  rest_long = omega (arith, fits.long, parts_length parted, ap length ends, length-drop (length ahead) arrived)
 
   pub landed_parts : (before now : List ℕ → List ℕ) → ((l : List ℕ) → length (before l) ≡ length l) → ((l : List ℕ) → length (now l) ≡ length l) →
       ((later : List ℕ) → before (first ++ later) ≡ before first ++ now later) →
       onto (now rest) again ++ onto (before first) ahead ≡ added (length run) t 1 (before arrived) run
   landed_parts before now long long' to_come =
-      let c = length run in
       let all : arrived ≡ first ++ rest = sym (rw (begins, ends) (take-append-drop (length ahead) arrived)) in
-      let whole : run ≡ again ++ ahead = sym (rw (front, back) (take-append-drop place run)) in
-      sym (ap (λ (l : List ℕ). added c t 1 (before l) run) all
-      ∙ ap (λ (l : List ℕ). added c t 1 l run) (to_come rest)
-      ∙ ap (added c t 1 (before first ++ now rest)) whole
-      ∙ added_parts parted fits.some (before first) (now rest)
+      sym (ap (λ (l : List ℕ). added (length run) t 1 l run) (ap before all ∙ to_come rest)
+      ∙ added_parts parted (before first) (now rest)
       (omega (arith, long first, begin_long)) (omega (arith, long' rest, rest_long)) (λ more. long first ∙ begin_long))

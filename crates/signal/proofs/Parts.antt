@@ -1,23 +1,17 @@
--- Laws of specs/Parts.antt: steps counted on from a post walk straight through the two parts; numbers that land, and those of a green.
-use Rattle.std.specs.Prelude.{ℕ, suc, ◌+◌, ◌-◌, ◌*◌, ◌≤◌, ◌<◌, ◌≡◌, refl, List, [], ◌∷◌, ◌++◌, map, length, set, get_or, take, drop}
+-- Laws of specs/Parts.antt: steps counted on from a post go straight through the two parts; numbers that land, and those of a green.
+use Rattle.std.specs.Prelude.{ℕ, suc, ◌+◌, ◌-◌, ◌*◌, ◌≤◌, ◌<◌, ◌≡◌, refl, List, [], ◌∷◌, ◌++◌, min, map, length, set, get_or, take, drop}
 use Rattle.std.proofs.Common.{arith, ap, sym, ◌∙◌, length-append, append_assoc}
 use Rattle.std.proofs.Math.Seq.{set-append_seam, get_or-append_seam}
-use Rattle.std.proofs.lemmas.List.{get_or-append-add, get_or_append_left, get_or-take, length-take-le, length-drop}
+use Rattle.std.proofs.lemmas.List.{get_or-append-add, get_or_append_left, get_or-take, length-take-le, take-append-drop}
 use Rattle.lists.specs.Lists.{tab, tab_append, tab_is, map_tab, number_at}
 use Rattle.signal.specs.declared.Green.{Green}
 use Rattle.signal.specs.Turn.{turn}
 use Rattle.signal.proofs.Turn.{turn_pos, place_lt, turn_same, turn_cycle, turn_on}
-use Rattle.signal.specs.Greens.{green_step, green_steps}
+use Rattle.signal.specs.Greens.{GreenFits, green_step, green_steps}
 use Rattle.signal.specs.Landing.{added, onto}
 use Rattle.signal.specs.Parts.{Parted}
 
 -- onto a list that is long enough, what stands behind stays
-onto_length : (ps run : List ℕ) → length (onto ps run) ≡ length run
-unfolding onto
-onto_length [] run = refl
-onto_length (p ∷ ps) [] = refl
-onto_length (p ∷ ps) (x ∷ run) = ap suc (onto_length ps run)
-
 onto_front : (ps run behind : List ℕ) → length ps ≤ length run → onto ps (run ++ behind) ≡ onto ps run ++ behind
 unfolding onto
 onto_front [] run behind h = refl
@@ -59,62 +53,91 @@ straight c t i (p ∷ ps) before (x ∷ run) at h =
     ∙ append_assoc before ((x + p) ∷ []) (onto ps run))
 
 -- a run parted at the place of the step after post t
-pub parted_at : (run : List ℕ) (t place : ℕ) → 0 < length run → place ≡ turn (length run) (t + 1) - 1 →
-    Parted (length run) t (take place run) (drop place run)
-parted_at run t place some is =
-    let h = place_lt (length run) (t + 1) some in
-    let front : length (take place run) ≡ place = length-take-le place run (omega arith) in
-    record { cycle = omega (arith, front, length-drop place run); place = front ∙ is }
+pub parted_at : {run again ahead : List ℕ} {t place : ℕ} → 0 < length run → place ≡ turn (length run) (t + 1) - 1 →
+    again ≡ take place run → ahead ≡ drop place run → Parted t run again ahead
+parted_at {run} {t} {place} some is front back =
+    let within = place_lt (length run) (t + 1) some in
+    record {
+      some = some;
+      place = ap length front ∙ length-take-le place run (omega arith) ∙ is;
+      whole = rw (front, back) (take-append-drop place run);
+    }
 
-module _ {c t : ℕ} {again ahead : List ℕ} (parted : Parted c t again ahead) (some : 0 < c) where
+module _ {t : ℕ} {run again ahead : List ℕ} (parted : Parted t run again ahead) where
+  pub parts_length : length again + length ahead ≡ length run
+  parts_length = sym (length-append again ahead) ∙ ap length parted.whole
+
   -- up to the cycle's end the steps follow each other from the place on
-  ahead_turn : (k : ℕ) → k < length ahead → turn c (t + 1 + k) ≡ length again + 1 + k
+  ahead_turn : (k : ℕ) → k < length ahead → turn (length run) (t + 1 + k) ≡ length again + 1 + k
   ahead_turn k h =
+      let c = length run in
       let low = turn_pos c (t + 1) in
       sym (turn_on c (t + 1) k (omega arith))
-      ∙ turn_same c (turn c (t + 1) + k) (omega arith) (omega (arith, parted.cycle, parted.place)) ∙ omega (arith, parted.place)
+      ∙ turn_same c (turn c (t + 1) + k) (omega arith) (omega (arith, parts_length, parted.place)) ∙ omega (arith, parted.place)
 
   -- then from step 1
-  again_turn : (k : ℕ) → k < c → turn c (t + 1 + (length ahead + k)) ≡ 1 + k
+  again_turn : (k : ℕ) → k < length again → turn (length run) (t + 1 + (length ahead + k)) ≡ 1 + k
   again_turn k h =
+      let c = length run in
       let low = turn_pos c (t + 1) in
-      let e : turn c (t + 1) + (length ahead + k) ≡ 1 + k + c * 1 = omega (arith, parted.cycle, parted.place) in
-      sym (turn_on c (t + 1) (length ahead + k) (omega arith)) ∙ rw e (turn_cycle c (1 + k) 1 (omega arith) ∙ turn_same c (1 + k) (omega arith) (omega arith))
+      let e : turn c (t + 1) + (length ahead + k) ≡ 1 + k + c * 1 = omega (arith, parts_length, parted.place) in
+      sym (turn_on c (t + 1) (length ahead + k) (omega arith))
+      ∙ rw e (turn_cycle c (1 + k) 1 (omega arith) ∙ turn_same c (1 + k) (omega arith) (omega (arith, parts_length)))
 
   -- numbers that land t steps after their own: the first as far as the cycle's end, the others from step 1
   pub added_parts : (ps qs : List ℕ) → length ps ≤ length ahead → length qs ≤ length again → (0 < length qs → length ps ≡ length ahead) →
-      added c t 1 (ps ++ qs) (again ++ ahead) ≡ onto qs again ++ onto ps ahead
+      added (length run) t 1 (ps ++ qs) run ≡ onto qs again ++ onto ps ahead
   added_parts ps qs front back full =
-      added_append c t 1 ps qs (again ++ ahead)
+      let c = length run in
+      added_append c t 1 ps qs run
       ∙ ap (added c t (1 + length ps) qs)
-      (straight c t 1 ps again ahead (λ k h. let e : 1 + k + t ≡ t + 1 + k = omega arith in rw e (ahead_turn k (omega arith))) front)
+      (ap (added c t 1 ps) (sym parted.whole)
+      ∙ straight c t 1 ps again ahead (λ k h. let e : 1 + k + t ≡ t + 1 + k = omega arith in rw e (ahead_turn k (omega arith))) front)
       ∙ straight c t (1 + length ps) qs [] (again ++ onto ps ahead)
       (λ k h.
       let e : 1 + length ps + k + t ≡ t + 1 + (length ahead + k) = omega (arith, full (omega arith)) in
-      rw e (again_turn k (omega (arith, parted.cycle))))
+      rw e (again_turn k (omega arith)))
       (omega (arith, length-append again (onto ps ahead)))
       ∙ onto_front qs again (onto ps ahead) back
 
-  -- the numbers in n places, the list's from place k on: those of steps that follow each other there
-  walked : (f : ℕ → ℕ) (k n : ℕ) (part : List ℕ) → n ≤ length part → ((i : ℕ) → i < n → get_or part i 0 ≡ f (k + i)) → tab f k n ≡ take n part
-  walked f k n part h same = sym (tab_is f k n (take n part) (length-take-le n part h) (λ i hi. get_or-take n part i 0 hi ∙ same i hi))
+  number_ahead : (k : ℕ) → k < length ahead → number_at run (turn (length run) (t + 1 + k)) ≡ get_or ahead k 0
+  number_ahead k h =
+      let at : length again + 1 + k - 1 ≡ length again + k = omega arith in
+      rw (ahead_turn k h, ← parted.whole, at) (get_or-append-add again ahead k 0)
 
-  -- the numbers of m and n steps of a green from post t: the first as far as the cycle's end, the others from step 1
-  pub green_parts : (green : Green) (m n : ℕ) → t ≡ green.start.0 → m + n ≡ green.steps → m ≤ length ahead → n ≤ length again →
-      (0 < n → m ≡ length ahead) → map (number_at (again ++ ahead)) (green_steps c green) ≡ take m ahead ++ take n again
+  number_again : (k : ℕ) → k < length again → number_at run (turn (length run) (t + 1 + (length ahead + k))) ≡ get_or again k 0
+  number_again k h =
+      let at : 1 + k - 1 ≡ k = omega arith in
+      rw (again_turn k h, ← parted.whole, at) (get_or_append_left again ahead 0 k h)
+
+-- a list's first numbers, tabled
+walked : (f : ℕ → ℕ) (i n : ℕ) (part : List ℕ) → n ≤ length part → ((k : ℕ) → k < n → f (i + k) ≡ get_or part k 0) → tab f i n ≡ take n part
+walked f i n part h same = sym (tab_is f i n (take n part) (length-take-le n part h) (λ k hk. get_or-take n part k 0 hk ∙ sym (same k hk)))
+
+-- a green's steps in the two parts: so many as the first has places for them, then the others
+module _ {green : Green} {run again ahead : List ℕ} {first : ℕ} (fits : GreenFits (length run) green)
+    (parted : Parted green.start.0 run again ahead) (most : first ≡ min green.steps (length ahead)) where
+  pub rest_fits : green.steps - first ≤ length again
+  rest_fits = omega (arith, parts_length parted, fits.steps, most)
+
+  pub ahead_full : 0 < green.steps - first → first ≡ length ahead
+  ahead_full more = omega (arith, most)
+
+  pub green_numbers : map (number_at run) (green_steps (length run) green) ≡ take first ahead ++ take (green.steps - first) again
   unfolding green_steps green_step
-  green_parts green m n from steps front back full =
-      let f : ℕ → ℕ = λ k. number_at (again ++ ahead) (turn c (green.start.0 + k)) in
-      map_tab (number_at (again ++ ahead)) (λ k. turn c (green.start.0 + k)) 1 green.steps
-      ∙ ap (tab f 1) (sym steps)
-      ∙ tab_append f 1 m n
+  green_numbers =
+      let b = green.start.0 in
+      let n = green.steps - first in
+      let f : ℕ → ℕ = λ k. number_at run (turn (length run) (b + k)) in
+      let all : green.steps ≡ first + n = omega (arith, most) in
+      map_tab (number_at run) (λ k. turn (length run) (b + k)) 1 green.steps
+      ∙ ap (tab f 1) all
+      ∙ tab_append f 1 first n
       ∙ rw (
-        walked f 1 m ahead front (λ i h.
-            let e : green.start.0 + (1 + i) ≡ t + 1 + i = omega (arith, from) in
-            let at : turn c (green.start.0 + (1 + i)) - 1 ≡ length again + i = omega (arith, ap (turn c) e, ahead_turn i (omega arith)) in
-            sym (rw at (get_or-append-add again ahead i 0))),
-        walked f (1 + m) n again back (λ i h.
-            let e : green.start.0 + (1 + m + i) ≡ t + 1 + (length ahead + i) = omega (arith, from, full (omega arith)) in
-            let at : turn c (green.start.0 + (1 + m + i)) - 1 ≡ i = omega (arith, ap (turn c) e, again_turn i (omega (arith, parted.cycle))) in
-            sym (rw at (get_or_append_left again ahead 0 i (omega arith)))),
+        walked f 1 first ahead (omega (arith, most)) (λ k h.
+            let e : b + (1 + k) ≡ b + 1 + k = omega arith in
+            rw e (number_ahead parted k (omega (arith, most)))),
+        walked f (1 + first) n again rest_fits (λ k h.
+            let e : b + (1 + first + k) ≡ b + 1 + (length ahead + k) = omega (arith, ahead_full (omega arith)) in
+            rw e (number_again parted k (omega (arith, rest_fits)))),
       )
