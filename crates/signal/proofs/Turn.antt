@@ -92,12 +92,12 @@ once c n s from pos fits =
     }
 
 -- for every cycle and every number from 1
-pub turned : (c n : ℕ) → 1 ≤ c → 1 ≤ n → Turned c n
+pub turned : (c n : ℕ) → 1 ≤ c → 1 ≤ n → Turned c n (turn c n)
 turned c n some from =
     record {
       first = turn_pos c n;
       last = turn_le c n some;
       cycles = (n - 1) / c;
       away = turn_whole c n from;
-      each = λ s pos fits. once c n s from pos fits;
+      each = λ q pos fits. once c n q from pos fits;
     }
