@@ -73,8 +73,8 @@ module _ {before now : List ℕ → List ℕ} {arrived run₀ run : List ℕ} {i
 -- a run's two parts: the first arrivals are as many as the part ahead, `now` has the parts of the rest
 module _ {arrived run again ahead first rest : List ℕ} {t : ℕ} (fits : LandsFit t arrived run) (parted : Parted t run again ahead)
     (begins : first ≡ take (length ahead) arrived) (ends : rest ≡ drop (length ahead) arrived) where
-  begin_long : length first ≡ length ahead
-  begin_long = rw begins (length-take-le (length ahead) arrived (omega (arith, fits.long, parts_length parted)))
+  first_long : length first ≡ length ahead
+  first_long = rw begins (length-take-le (length ahead) arrived (omega (arith, fits.long, parts_length parted)))
 
   rest_long : length rest ≡ length again
   rest_long = omega (arith, fits.long, parts_length parted, ap length ends, length-drop (length ahead) arrived)
@@ -86,4 +86,4 @@ module _ {arrived run again ahead first rest : List ℕ} {t : ℕ} (fits : Lands
       let all : arrived ≡ first ++ rest = sym (rw (begins, ends) (take-append-drop (length ahead) arrived)) in
       sym (ap (λ (l : List ℕ). added (length run) t 1 l run) (ap before all ∙ to_come rest)
       ∙ added_parts parted (before first) (now rest)
-      (omega (arith, long first, begin_long)) (omega (arith, long' rest, rest_long)) (λ more. long first ∙ begin_long))
+      (omega (arith, long first, first_long)) (omega (arith, long' rest, rest_long)) (λ more. long first ∙ first_long))
