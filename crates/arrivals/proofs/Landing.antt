@@ -3,25 +3,8 @@ use Rattle.std.proofs.Common.{ℕ, ◌+◌, ◌≤◌, ◌<◌, arith, ◌≡◌
 use Rattle.std.proofs.Common.{add-one, drop-cons, drop_of_length-le, length-append, append_assoc, append-nil}
 use Rattle.std.proofs.lemmas.List.{nil_from_length, take-append-drop, length-take-le, length-drop}
 use Rattle.signal.specs.Landing.{added, onto}
-use Rattle.signal.specs.Parts.{Parted}
-use Rattle.signal.proofs.Parts.{parts_length, added_parts}
+use Rattle.signal.proofs.Parts.{onto_next, onto_clear, Parted, parted_length, added_parts}
 use Rattle.arrivals.specs.Arrivals.{LandsFit}
-
--- one number more, in its place
-onto_next : (ps run : List ℕ) (p : ℕ) → length ps < length run →
-    onto (ps ++ (p ∷ [])) run ≡ set (onto ps run) (length ps) (get_or (onto ps run) (length ps) 0 + p)
-unfolding onto
-onto_next [] [] p h = absurd (omega arith)
-onto_next [] (x ∷ run) p h = refl
-onto_next (q ∷ ps) [] p h = absurd (omega arith)
-onto_next (q ∷ ps) (x ∷ run) p h = ap (λ (l : List ℕ). (x + q) ∷ l) (onto_next ps run p (omega arith))
-
--- where none was added yet, what stood there
-onto_clear : (ps run : List ℕ) → get_or (onto ps run) (length ps) 0 ≡ get_or run (length ps) 0
-unfolding onto
-onto_clear [] run = refl
-onto_clear (q ∷ ps) [] = refl
-onto_clear (q ∷ ps) (x ∷ run) = onto_clear ps run
 
 -- the parts of i arrivals stand in their places, `now` has those of the arrivals left and of any that come later
 pub record Laying (before now : List ℕ → List ℕ) (arrived run₀ run : List ℕ) (i : ℕ) : Type 0 where
@@ -74,10 +57,10 @@ module _ {before now : List ℕ → List ℕ} {arrived run₀ run : List ℕ} {i
 module _ {arrived run again ahead first rest : List ℕ} {t : ℕ} (fits : LandsFit t arrived run) (parted : Parted t run again ahead)
     (begins : first ≡ take (length ahead) arrived) (ends : rest ≡ drop (length ahead) arrived) where
   first_long : length first ≡ length ahead
-  first_long = rw begins (length-take-le (length ahead) arrived (omega (arith, fits.long, parts_length parted)))
+  first_long = rw begins (length-take-le (length ahead) arrived (omega (arith, fits.long, parted_length parted)))
 
   rest_long : length rest ≡ length again
-  rest_long = omega (arith, fits.long, parts_length parted, ap length ends, length-drop (length ahead) arrived)
+  rest_long = omega (arith, fits.long, parted_length parted, ap length ends, length-drop (length ahead) arrived)
 
   pub landed_parts : (before now : List ℕ → List ℕ) → ((l : List ℕ) → length (before l) ≡ length l) → ((l : List ℕ) → length (now l) ≡ length l) →
       ((later : List ℕ) → before (first ++ later) ≡ before first ++ now later) →

@@ -27,10 +27,10 @@ abbrev pub run_limit : ℕ
 run_limit = 4000000000
 
 -- ranges in which the sums of numbers added place by place fit
-pub record PartsFit (arrived part : List ℕ) : Type 0 where
-  pub long : length arrived ≤ length part
+pub record PartsFit (arrived run : List ℕ) : Type 0 where
+  pub long : length arrived ≤ length run
   pub arrivals : (i : ℕ) → get_or arrived i 0 ≤ arrival_limit
-  pub small : (k : ℕ) → get_or part k 0 ≤ run_limit
+  pub small : (k : ℕ) → get_or run k 0 ≤ run_limit
 
 -- those in which the sums of one run fit
 pub record LandsFit (t : ℕ) (arrived run : List ℕ) : Type 0 where

@@ -2,7 +2,7 @@
 // Access begins the runs; then each signalised entry's arrivals are added, pair by pair, where they land.
 #![tactic(auto)]
 
-ghost use Rattle.std.specs.Prelude.{◌≡◌, ◌+◌, ◌*◌, ◌≤◌, ◌<◌, ℕ, List, [], ◌∷◌, ◌++◌, ⊤, refl, length};
+ghost use Rattle.std.specs.Prelude.{◌≡◌, ◌+◌, ◌*◌, ◌≤◌, ◌<◌, ℕ, List, ◌∷◌, ◌++◌, ⊤, refl, length};
 ghost use Rattle.signal.specs.Landing.{added, onto};
 ghost use Rattle.pair_parts.specs.PairParts.{parts, pair_arrivals};
 ghost use Rattle.pair_parts.proofs.Laws.{parts_length};
@@ -69,22 +69,22 @@ impl Share for Pair {
     ghost long = { λ s arrived. parts_length s.v s.w s.carry arrived };
 }
 
-// Arrivals one after another: the part of each is added to the number in its place of a run's part.
-fn add_parts<S: Share>(arrived: &[u32], share: &mut S, part: &mut [u32])
-    requires fits { PartsFit arrived.now part.old }
+// Arrivals one after another: the part of each is added to the number in its place of the run.
+fn add_parts<S: Share>(arrived: &[u32], share: &mut S, run: &mut [u32])
+    requires fits { PartsFit arrived.now run.old }
     requires fair { S.fair share.old }
     ensures fair { S.fair share.new }
-    ensures added { part.new ≡ onto (S.parts share.old arrived.now) part.old }
+    ensures added { run.new ≡ onto (S.parts share.old arrived.now) run.old }
     ensures to_come { (later : List ℕ) → S.parts share.old (arrived.now ++ later) ≡ S.parts share.old arrived.now ++ S.parts share.new later }
 {
     for (i, arrival) in arrived.iter().enumerate() {
-        part[i] += share.part(*arrival);
+        run[i] += share.part(*arrival);
     }
 }
 
 // The part of each arrival is added to a run where its step lands: up to the cycle's end from the place where step 1's lands, then from
-// the run's beginning. Arrivals and the time t stand apart here and below: the definition `added` takes each by itself, and a struct of
-// both would only be taken apart.
+// the run's beginning. What left at post 0 arrives at post t. Arrivals and the time t stand apart here and below: the definition `added`
+// takes each by itself, and a struct of both would only be taken apart.
 fn land<S: Share + Copy>(arrived: &[u32], mut share: S, t: u32, run: &mut [u32])
     requires fits { LandsFit t arrived.now run.old }
     requires fair { S.fair share }

@@ -6,13 +6,13 @@ ghost use Rattle.limits.specs.Limits.{entry_limit, flow_limit, most_arriving, st
 ghost use Rattle.movements.specs.Movements.{flow_units};
 ghost use Rattle.signal.specs.Greens.{GreenFits};
 ghost use Rattle.signal.specs.Landing.{added};
-ghost use Rattle.platoon.specs.Discharge.{cycle_bound, green_flows, profile_of, queue_of, served, served_of, waits_after};
-ghost use Rattle.platoon.specs.Serving.{ServeFits};
+ghost use Rattle.platoon.specs.Discharge.{cycle_bound, green_flows, profile_of, queue_of, served_of};
+ghost use Rattle.platoon.specs.Serving.{ServeFits, ServedPart};
 
 use movements::flow_units;
 use signal::Green;
 
-// The queue of a green: what waits as it starts, what arrives while it lasts, what a step can serve.
+// The queue of a green: what waits as it starts, or goes on past the cycle's end, what arrives while it lasts, what a step can serve.
 #[derive(Clone, Copy)]
 pub struct Queue {
     pub waiting: u64,
@@ -51,9 +51,8 @@ fn arrived(k: u32, arriving: u64, g: u32) -> u64
 // discharges into its place. A `for`: what waits and what has passed go on from step to step. Answers what waits after them.
 fn serve_steps(queue: Queue, g: u32, gone: u32, part: &mut [u32]) -> u64
     requires { ServeFits queue g gone part.old }
-    ensures waiting { result ≡ waits_after queue.arriving g queue.rate (length part.old) (gone + 1) queue.waiting }
     ensures no_more { result ≤ queue.waiting + queue.arriving }
-    ensures part { part.new ≡ served queue.arriving g queue.rate (length part.old) (gone + 1) queue.waiting }
+    ensures part { ServedPart queue g gone (length part.old) part.new result }
 {
     let mut waiting = queue.waiting;
     let mut passed = arrived(gone, queue.arriving, g);
@@ -81,8 +80,8 @@ fn release(green: Green, queue: Queue, run: &mut [u32])
     let (again, ahead) = run.split_at_mut(signal::place_after(run.len() as u32, green.start));
     let first = g.min(ahead.len() as u32);
     let waiting = serve_steps(queue, g, 0, &mut ahead[..first as usize]);
-    let rest = Queue { waiting, ..queue };
-    serve_steps(rest, g, first, &mut again[..(g - first) as usize]);
+    let queue = Queue { waiting, ..queue };
+    serve_steps(queue, g, first, &mut again[..(g - first) as usize]);
 }
 
 // The queue of a cycle of c steps at a discharge volume, in thousandths of veh/h: what does not arrive on green waits when green starts.

@@ -1,4 +1,4 @@
--- Laws of specs/Parts.antt: steps counted on from a post go straight through the two parts; numbers that land, and those of a green.
+-- The two parts of a cycle's run that steps counted on from a post take: those up to the cycle's end, then those from step 1.
 use Rattle.std.specs.Prelude.{ℕ, suc, ◌+◌, ◌-◌, ◌*◌, ◌≤◌, ◌<◌, ◌≡◌, refl, List, [], ◌∷◌, ◌++◌, min, map, length, set, get_or, take, drop}
 use Rattle.std.proofs.Common.{arith, ap, sym, ◌∙◌, length-append, append_assoc}
 use Rattle.std.proofs.Math.Seq.{set-append_seam, get_or-append_seam}
@@ -9,7 +9,6 @@ use Rattle.signal.specs.Turn.{turn}
 use Rattle.signal.proofs.Turn.{turn_pos, place_lt, turn_same, turn_cycle, turn_on}
 use Rattle.signal.specs.Greens.{GreenFits, green_step, green_steps}
 use Rattle.signal.specs.Landing.{added, onto}
-use Rattle.signal.specs.Parts.{Parted}
 
 -- onto a list that is long enough, what stands behind stays
 onto_front : (ps run behind : List ℕ) → length ps ≤ length run → onto ps (run ++ behind) ≡ onto ps run ++ behind
@@ -17,6 +16,22 @@ unfolding onto
 onto_front [] run behind h = refl
 onto_front (p ∷ ps) [] behind h = absurd (omega arith)
 onto_front (p ∷ ps) (x ∷ run) behind h = ap (λ (l : List ℕ). (x + p) ∷ l) (onto_front ps run behind (omega arith))
+
+-- one number more, in its place
+pub onto_next : (ps run : List ℕ) (p : ℕ) → length ps < length run →
+    onto (ps ++ (p ∷ [])) run ≡ set (onto ps run) (length ps) (get_or (onto ps run) (length ps) 0 + p)
+unfolding onto
+onto_next [] [] p h = absurd (omega arith)
+onto_next [] (x ∷ run) p h = refl
+onto_next (q ∷ ps) [] p h = absurd (omega arith)
+onto_next (q ∷ ps) (x ∷ run) p h = ap (λ (l : List ℕ). (x + q) ∷ l) (onto_next ps run p (omega arith))
+
+-- where none was added yet, what stood there
+pub onto_clear : (ps run : List ℕ) → get_or (onto ps run) (length ps) 0 ≡ get_or run (length ps) 0
+unfolding onto
+onto_clear [] run = refl
+onto_clear (q ∷ ps) [] = refl
+onto_clear (q ∷ ps) (x ∷ run) = onto_clear ps run
 
 -- onto zeros they are themselves
 pub onto_zeros : (ps run : List ℕ) → ((k : ℕ) → get_or run k 0 ≡ 0) → length ps ≤ length run → onto ps run ≡ ps ++ drop (length ps) run
@@ -52,6 +67,12 @@ straight c t i (p ∷ ps) before (x ∷ run) at h =
     (λ k hk. let e : suc i + k + t ≡ i + suc k + t = omega arith in let n = at (suc k) (omega arith) in rw (e, more) (omega (arith, n))) (omega arith)
     ∙ append_assoc before ((x + p) ∷ []) (onto ps run))
 
+-- `ahead` begins with the step after post t and ends the run, `again` stands before it
+pub record Parted (t : ℕ) (run again ahead : List ℕ) : Type 0 where
+  pub some : 0 < length run
+  pub place : length again ≡ turn (length run) (t + 1) - 1
+  pub whole : again ++ ahead ≡ run
+
 -- a run parted at the place of the step after post t
 pub parted_at : {run again ahead : List ℕ} {t place : ℕ} → 0 < length run → place ≡ turn (length run) (t + 1) - 1 →
     again ≡ take place run → ahead ≡ drop place run → Parted t run again ahead
@@ -64,8 +85,8 @@ parted_at {run} {t} {place} some is front back =
     }
 
 module _ {t : ℕ} {run again ahead : List ℕ} (parted : Parted t run again ahead) where
-  pub parts_length : length again + length ahead ≡ length run
-  parts_length = sym (length-append again ahead) ∙ ap length parted.whole
+  pub parted_length : length again + length ahead ≡ length run
+  parted_length = sym (length-append again ahead) ∙ ap length parted.whole
 
   -- up to the cycle's end the steps follow each other from the place on
   ahead_turn : (k : ℕ) → k < length ahead → turn (length run) (t + 1 + k) ≡ length again + 1 + k
@@ -73,16 +94,16 @@ module _ {t : ℕ} {run again ahead : List ℕ} (parted : Parted t run again ahe
       let c = length run in
       let low = turn_pos c (t + 1) in
       sym (turn_on c (t + 1) k (omega arith))
-      ∙ turn_same c (turn c (t + 1) + k) (omega arith) (omega (arith, parts_length, parted.place)) ∙ omega (arith, parted.place)
+      ∙ turn_same c (turn c (t + 1) + k) (omega arith) (omega (arith, parted_length, parted.place)) ∙ omega (arith, parted.place)
 
   -- then from step 1
   again_turn : (k : ℕ) → k < length again → turn (length run) (t + 1 + (length ahead + k)) ≡ 1 + k
   again_turn k h =
       let c = length run in
       let low = turn_pos c (t + 1) in
-      let e : turn c (t + 1) + (length ahead + k) ≡ 1 + k + c * 1 = omega (arith, parts_length, parted.place) in
+      let e : turn c (t + 1) + (length ahead + k) ≡ 1 + k + c * 1 = omega (arith, parted_length, parted.place) in
       sym (turn_on c (t + 1) (length ahead + k) (omega arith))
-      ∙ rw e (turn_cycle c (1 + k) 1 (omega arith) ∙ turn_same c (1 + k) (omega arith) (omega (arith, parts_length)))
+      ∙ rw e (turn_cycle c (1 + k) 1 (omega arith) ∙ turn_same c (1 + k) (omega arith) (omega (arith, parted_length)))
 
   -- numbers that land t steps after their own: the first as far as the cycle's end, the others from step 1
   pub added_parts : (ps qs : List ℕ) → length ps ≤ length ahead → length qs ≤ length again → (0 < length qs → length ps ≡ length ahead) →
@@ -118,7 +139,7 @@ walked f i n part h same = sym (tab_is f i n (take n part) (length-take-le n par
 module _ {green : Green} {run again ahead : List ℕ} {first : ℕ} (fits : GreenFits (length run) green)
     (parted : Parted green.start.0 run again ahead) (most : first ≡ min green.steps (length ahead)) where
   pub rest_fits : green.steps - first ≤ length again
-  rest_fits = omega (arith, parts_length parted, fits.steps, most)
+  rest_fits = omega (arith, parted_length parted, fits.steps, most)
 
   pub ahead_full : 0 < green.steps - first → first ≡ length ahead
   ahead_full more = omega (arith, most)

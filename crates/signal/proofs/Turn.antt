@@ -62,7 +62,7 @@ module _ (c t s : ℕ) (pos : 0 < s) (fits : s ≤ c) where
   unfolding earlier
   earlier_lands = turn_on c _ t (omega (arith, on)) ∙ ap (turn c) (omega (arith, on)) ∙ round
 
-  pub earlier_of : earlier c t (turn c (s + t)) ≡ s
+  earlier_of : earlier c t (turn c (s + t)) ≡ s
   unfolding earlier
   earlier_of =
       let e : turn c (s + t) + c * t - t ≡ turn c (s + t) + (c * t - t) = omega (arith, on) in

@@ -8,8 +8,8 @@ loop-i-init g c = (c.requires.fair, laying_start _ _ _)
 pub part-requires : goal.part-requires
 part-requires g c = c.loop-i.invariant.0
 
-pub overflow_add-part : goal.overflow_add-part
-overflow_add-part g c =
+pub overflow_add-run : goal.overflow_add-run
+overflow_add-run g c =
     let i = c.loop-i.i in
     omega (arith, place_clear c.loop-i.invariant.1, c.part.ensures.no_more, c.requires.fits.small i, c.requires.fits.arrivals i)
 

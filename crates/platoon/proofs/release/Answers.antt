@@ -16,4 +16,4 @@ returns c =
     let ahead_empty = back_empty c.place_after.result c.requires.run_value run.back in
     let parted = parted_at (omega (arith, fits.start)) place.place run.front run.back in
     released fits parted c.min-first.ensures c.args.queue again_empty ahead_empty
-    c.serve_steps-waiting.ensures.waiting c.serve_steps-waiting.ensures.part c.serve_steps.ensures.part
+    c.serve_steps-waiting.auto.part c.serve_steps.auto.part c.serve_steps-waiting.ensures.part c.serve_steps.ensures.part

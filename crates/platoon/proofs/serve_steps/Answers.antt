@@ -16,11 +16,8 @@ pub loop-i-preserved : goal.loop-i-preserved
 loop-i-preserved c =
     serving_turn c.requires c.loop-i.invariant c.loop-i-test.true c.arrived-reached.ensures c.loop-i.auto.part c.serve-step.ensures
 
-pub returns-clause-waiting : goal.returns-clause-waiting
-returns-clause-waiting c = (serving_done c.loop-i.invariant c.loop-i.auto.part c.loop-i-test.false).0
-
 pub returns-clause-no_more : goal.returns-clause-no_more
 returns-clause-no_more c = waits_no_more c.requires c.loop-i.invariant c.loop-i.auto.i-end
 
 pub returns-clause-part : goal.returns-clause-part
-returns-clause-part c = (serving_done c.loop-i.invariant c.loop-i.auto.part c.loop-i-test.false).1
+returns-clause-part c = serving_done c.loop-i.invariant c.loop-i.auto.part c.loop-i.auto.i-end c.loop-i-test.false
