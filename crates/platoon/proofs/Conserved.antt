@@ -1,7 +1,7 @@
 -- Laws of specs/Conserved.antt: A cycle discharges what it carries.
 use Rattle.std.specs.Prelude.{ℕ, zero, suc, ◌+◌, ◌-◌, ◌*◌, ◌/◌, min, ◌≤◌, ◌<◌, ◌≡◌, get_or}
-use Rattle.std.proofs.Common.{arith, mod-lt, mul-le-mul_left, mul-le-mul_right, ap, ◌∙◌}
-use Rattle.std.proofs.Math.Nat.{div-add-mod, lt_of_mul-lt-mul_left, mul-div_cancel_left, zero-div, div-le_of_le-mul}
+use Rattle.std.proofs.Common.{arith, mod-lt, mul-le-mul_left, ap, ◌∙◌}
+use Rattle.std.proofs.Math.Nat.{div-add-mod, lt_of_mul-lt-mul_left, mul-div_cancel_left, zero-div}
 use Rattle.limits.specs.Limits.{most_arriving}
 use Rattle.lists.specs.Lists.{sum}
 use Rattle.movements.specs.Movements.{flow_units}
@@ -10,7 +10,7 @@ use Rattle.signal.specs.Greens.{GreenFits}
 use Rattle.signal.specs.Landing.{landed}
 use Rattle.signal.proofs.Landing.{landed_sum, landed_le}
 use Rattle.platoon.specs.Discharge.{carried, green_arrivals, received, served_of, served, queue_of, green_flows, profile_of}
-use Rattle.platoon.specs.GreenOrder.{more_arrived}
+use Rattle.platoon.specs.GreenOrder.{more_arrived, arrived_le}
 use Rattle.platoon.proofs.GreenOrder.{flows_length}
 use Rattle.platoon.specs.Conserved.{green_arrivals_le}
 
@@ -42,7 +42,7 @@ serves_all all g rate (suc n) k waiting pos first steps enough fits =
     let f' = k * all / g in
     let queue = waiting + (f' - f) in
     let up = more_arrived all g (k - 1) k pos (omega arith) in
-    let most : f' ≤ all = div-le_of_le-mul g (mul-le-mul_right all (omega arith)) in
+    let most = arrived_le all g k (omega arith) in
     let left = rest_served all g rate k pos (omega arith) enough in
     let e : g - k ≡ n = omega arith in
     let later : all - f' ≤ n * rate = (rw e at left) in
