@@ -1,18 +1,23 @@
 // Exam sheets: an archive of segment records on standard input, a page for each record on standard output.
 #![tactic(auto)]
 
+ghost use Rattle.std.specs.Prelude.{OnOk};
+ghost use Rattle.program.specs.Program.{Prints};
+
 use report::{Form, INPUT_LIMIT, SHEETS_ROOM};
 use std::io;
+use std::io::{Read, Write};
 
-// Each program's `main` is the one call with its form and a buffer that holds every text of it: it holds the handle, so it stays.
-fn main(rt: HostRuntime) -> io::Result<()> {
+// The sheets of the archive that is read, in a buffer that holds every text of them. Apart from `main`, so that a contract names the form.
+fn print<R: Read, W: Write>(from: &mut R, to: &mut W) -> io::Result<()>
+    ensures { OnOk result (Prints Form.Sheet (R.remaining from.old) (R.remaining from.new) (W.contents to.old) (W.contents to.new)) }
+{
     let mut input = [0u8; INPUT_LIMIT + 1];
     let mut text = [0u8; SHEETS_ROOM];
-    program::run(
-        &mut rt.stdin(),
-        &mut rt.stdout(),
-        Form::Sheet,
-        &mut input,
-        &mut text,
-    )
+    program::run(from, to, Form::Sheet, &mut input, &mut text)
+}
+
+// It holds the handle, so it stays.
+fn main(rt: HostRuntime) -> io::Result<()> {
+    print(&mut rt.stdin(), &mut rt.stdout())
 }
