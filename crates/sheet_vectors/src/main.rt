@@ -10,6 +10,14 @@ use working_outcome::Working;
 // The longest page buffer that a case lends.
 const PAGE_ROOM: usize = 4500;
 
+// The longest profiles that a case lends, beside the page buffer.
+const MOST: Lengths = Lengths {
+    output: 1000,
+    passing: 0,
+    first: 300,
+    second: 300,
+};
+
 // What must be answered: number, last sum.
 fn answer_differs(expected: &[u8; 12], answer: Result<Working, Unworked>) -> bool {
     let (number, sum) = match answer {
@@ -19,8 +27,8 @@ fn answer_differs(expected: &[u8; 12], answer: Result<Working, Unworked>) -> boo
     (octets::word4_at(expected, 0) != number) | vectors::float_differs(expected, 4, sum)
 }
 
-// Whether a case differs; none where it ends before all of it, or its page buffer is longer than the longest. After the record stand the
-// lengths, what must be answered, the page buffer and the profiles after the call.
+// Whether a case differs; none where it ends before all of it, or its page buffer or a profile is longer than the longest. After the record
+// stand the lengths, what must be answered, the page buffer and the profiles after the call.
 fn compared(record: &[u8], rest: &[u8]) -> Option<bool> {
     let (lengths, rest) = rest.split_first_chunk::<16>()?;
     let (expected, rest) = rest.split_first_chunk::<12>()?;
@@ -35,6 +43,9 @@ fn compared(record: &[u8], rest: &[u8]) -> Option<bool> {
     let mut space = [0u8; PAGE_ROOM];
     let page = space.get_mut(..t)?;
     vectors::fill_bytes(page);
+    if !lengths.within(MOST) {
+        return None;
+    }
     Some(vectors::lent_differ(lengths, numbers, |profiles, _| {
         let answer = sheet::sheet(record, page, profiles);
         answer_differs(expected, answer) | (&*page != expected_page)

@@ -1,5 +1,5 @@
 -- What the test programs compare.
-use Rattle.std.specs.Prelude.{◌≡◌, ℕ, ◌≤◌, ◌+◌, ◌*◌, ◌%◌, Bool, false, ◌||◌, not, List, [], ◌∷◌, ◌++◌, eqb, ltb, Float, length, take, drop, Option}
+use Rattle.std.specs.Prelude.{◌≡◌, ℕ, ◌≤◌, ◌+◌, ◌*◌, ◌%◌, Bool, false, ◌||◌, ◌&&◌, not, List, [], ◌∷◌, ◌++◌, eqb, leb, ltb, Float, length, take, drop, Option}
 use Rattle.std.specs.Borrow.{MutBor}
 use Rattle.std.specs.List.{flat_map}
 use Rattle.std.specs.Io.KnownBytes.{Appends}
@@ -67,6 +67,10 @@ pub record AsLong (n : Lengths) (numbers : List ℕ) : Type 0 where
   pub first : n.first ≤ ROOM
   pub second : n.second ≤ ROOM
   pub count : length numbers ≡ 4 * (n.output + n.passing + n.first + n.second)
+
+-- none is longer than the longest of its kind
+unfoldable pub within : Lengths → Lengths → Bool
+within n most = leb n.output most.output && leb n.passing most.passing && leb n.first most.first && leb n.second most.second
 
 -- lent profiles that are no longer than a case lends them
 abbrev pub Lendable : Profiles → List ℕ → Type 0

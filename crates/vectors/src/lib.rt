@@ -7,7 +7,7 @@ ghost use Rattle.octets.specs.Octets.{word2, word4};
 ghost use Rattle.buffer.specs.Buffer.{WroteAt, next_place};
 ghost use Rattle.propagation.specs.Propagation.{Same, held};
 ghost use Rattle.vectors.specs.Vectors.{Adds, AsLong, Compared, IsRecordAndRest, Lendable, Patterned, Told, byte_pattern, closing_line, float_differs};
-ghost use Rattle.vectors.specs.Vectors.{pattern, profile_differs, profiles_differ, rows_differ, words_differ};
+ghost use Rattle.vectors.specs.Vectors.{pattern, profile_differs, profiles_differ, rows_differ, within, words_differ};
 
 use buffer::Writer;
 use propagation::LentProfiles;
@@ -24,7 +24,7 @@ pub const SECOND_FROM: u32 = 3200000000;
 
 pub const PASSING_FROM: u32 = 3300000000;
 
-// The longest profile that a case lends.
+// The longest profile that a case of any program lends.
 pub const ROOM: usize = 2000;
 
 // A buffer that holds every closing line.
@@ -223,6 +223,19 @@ pub struct Lengths {
     pub passing: u32,
     pub first: u32,
     pub second: u32,
+}
+
+impl Lengths {
+    // Whether none is longer than the longest of its kind that a test program lends.
+    #[tactic(auto, unfolding(crate::specs::Vectors::within))]
+    pub fn within(self, most: Lengths) -> bool
+        ensures { result ≡ within self most }
+    {
+        (self.output <= most.output)
+            & (self.passing <= most.passing)
+            & (self.first <= most.first)
+            & (self.second <= most.second)
+    }
 }
 
 // Makes a call on profiles of these lengths that hold their patterns: whether it says that its answer differs, or their numbers after it

@@ -9,6 +9,14 @@ use std::io;
 use vectors::Lengths;
 use working_outcome::Working;
 
+// The longest profiles that a case lends.
+const MOST: Lengths = Lengths {
+    output: 1200,
+    passing: 0,
+    first: 1200,
+    second: 1200,
+};
+
 fn figures_at(expected: &[u8; 156], at: usize) -> ExitFigures
     requires { at + 20 ≤ 156 }
 {
@@ -45,8 +53,8 @@ fn answer_differs(expected: &[u8; 156], answer: Result<Working, Unworked>) -> bo
     }
 }
 
-// Whether a case differs; none where it ends before all of it. After the record stand the profiles' lengths, what must be answered, and
-// the profiles after the call.
+// Whether a case differs; none where it ends before all of it, or lends a longer profile. After the record stand the profiles' lengths,
+// what must be answered, and the profiles after the call.
 fn compared(record: &[u8], rest: &[u8]) -> Option<bool> {
     let (lengths, rest) = rest.split_first_chunk::<12>()?;
     let (expected, numbers) = rest.split_first_chunk::<156>()?;
@@ -56,6 +64,9 @@ fn compared(record: &[u8], rest: &[u8]) -> Option<bool> {
         second: octets::word4_at(lengths, 8),
         ..Lengths::default()
     };
+    if !lengths.within(MOST) {
+        return None;
+    }
     Some(vectors::lent_differ(lengths, numbers, |profiles, _| {
         answer_differs(expected, working::work(record, profiles))
     }))
