@@ -17,7 +17,7 @@ fn print<R: Read, W: Write>(from: &mut R, to: &mut W) -> io::Result<()>
     program::run(from, to, Form::Sheet, &mut input, &mut text)
 }
 
-// It holds the handle, so it stays.
+// `print` on the input and output of the process, whose handle only `main` has.
 fn main(rt: HostRuntime) -> io::Result<()> {
     print(&mut rt.stdin(), &mut rt.stdout())
 }

@@ -40,12 +40,12 @@ fn compared(record: &[u8], rest: &[u8]) -> Option<bool> {
         second: octets::word4_at(lengths, 12),
         ..Lengths::default()
     };
-    let mut space = [0u8; PAGE_ROOM];
-    let page = space.get_mut(..t)?;
-    vectors::fill_bytes(page);
     if !lengths.within(MOST) {
         return None;
     }
+    let mut space = [0u8; PAGE_ROOM];
+    let page = space.get_mut(..t)?;
+    vectors::fill_bytes(page);
     Some(vectors::lent_differ(lengths, numbers, |profiles, _| {
         let answer = sheet::sheet(record, page, profiles);
         answer_differs(expected, answer) | (&*page != expected_page)
